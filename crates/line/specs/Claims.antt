@@ -1,0 +1,105 @@
+-- What is proved of the definitions (the proofs are in proofs/, under the same names with hyphens).
+use Prim.Native.Nat.{ℕ, _≤_}
+use mathlib.Core.Path.{_≡_}
+use mathlib.Core.Logic.{_↔_, _≢_}
+use mathlib.Core.Bool.{Bool, true}
+use mathlib.Core.List.{List, [], _∷_}
+use mathlib.Core.List.{List·Memᴰ as Member}
+use lib.ListN.{length, take}
+use Rattle.line.specs.declared.Refusal.{Refusal}
+use Rattle.line.specs.declared.Refusal.the-variants.{Full}
+use Rattle.line.specs.declared.Reading.{Reading}
+use Rattle.line.specs.declared.Ending.the-variants.{Complete, Stopped}
+use Rattle.line.specs.declared.Step as declared
+use Rattle.line.specs.declared.Action.{Action}
+use Rattle.line.specs.Answer.{refused, done}
+use Rattle.line.specs.Message.{capacity}
+use Rattle.line.specs.Site.{Site, Line, number, Present, inWrittenOrder, Written}
+use Rattle.line.specs.Links.{Joined}
+use Rattle.line.specs.Nidec.{Nidec, nidec}
+use Rattle.line.specs.Act.{Send, Effect, act}
+use Rattle.line.specs.Step.{step}
+use Rattle.line.specs.Run.{try, run}
+use Rattle.line.specs.Accepted.{Sided, Accepted, accepted}
+use Rattle.line.specs.Alike.{Alike}
+use Rattle.line.specs.InLine.{InLine, inLine}
+use Rattle.line.specs.Report.{Fires}
+use Rattle.line.specs.Situations.{Situation, Holds, situations}
+use Rattle.line.specs.Examples.{examples}
+
+-- The tests say what the statements say.
+abbrev pub NidecTested : Type 0
+NidecTested = (line : Line) (p : Site) → (nidec line p ≡ true) ↔ Nidec line p
+
+abbrev pub AcceptedTested : Type 0
+AcceptedTested = (line : Line) → (accepted line ≡ true) ↔ Accepted line
+
+abbrev pub InLineTested : Type 0
+InLineTested = (line : Line) → Written line → (inLine line ≡ true) ↔ InLine line
+
+-- 1. A step that is done leaves an accepted line accepted and in written order; so does a run.
+abbrev pub StepKeepsAccepted : Type 0
+StepKeepsAccepted = (line after : Line) (x : declared.Step) → Accepted line → Written line → step line x ≡ done after → Accepted after × Written after
+
+abbrev pub RunKeepsAccepted : Type 0
+RunKeepsAccepted = (line : Line) (l : List Reading) → Accepted line → Written line → Accepted ((run line l) .line) × Written ((run line l) .line)
+
+-- 2. The line is never cut: two stations present at the end of a run, whether or not it stopped at a refusal, are joined there
+-- exactly when they were joined at the start.
+abbrev pub JoinedKept : Type 0
+JoinedKept =
+    (line : Line) (l : List Reading) → Accepted line → Written line
+    → (a b : ℕ) → Present ((run line l) .line) a → Present ((run line l) .line) b → Joined line a b ↔ Joined ((run line l) .line) a b
+
+-- 3. Accepted lines that are alike, whatever their stored order, have one written order; so everything after reading is equal.
+abbrev pub AlikeAgree : Type 0
+AlikeAgree = (a b : Line) → Accepted a → Accepted b → Alike a b → inWrittenOrder a ≡ inWrittenOrder b
+
+-- The written order of an accepted line is accepted and written, is alike to the line, and joins the same stations.
+abbrev pub WrittenOrderKeeps : Type 0
+WrittenOrderKeeps =
+    (line : Line) → Accepted line
+    → Accepted (inWrittenOrder line) × Written (inWrittenOrder line) × Alike line (inWrittenOrder line)
+    × ((a b : ℕ) → Joined line a b ↔ Joined (inWrittenOrder line) a b)
+
+-- A line in written order is left as it is.
+abbrev pub WrittenOrderStays : Type 0
+WrittenOrderStays = (line : Line) → Written line → inWrittenOrder line ≡ line
+
+-- 4. A step is done exactly when Figure 1 allows it and no bag would hold more than 32, and then leads where Figure 1 leads.
+-- It is refused with 15 exactly when Figure 1 allows it and some bag would hold more than 32.
+abbrev pub WithinCapacity : Line → Type 0
+WithinCapacity line = (s : Site) → Member s line → length (s .bag) ≤ capacity
+
+abbrev pub ReportAgrees : Type 0
+ReportAgrees =
+    (line : Line) (x : declared.Step) → Accepted line → Written line
+    → ((after : Line) → (step line x ≡ done after) ↔ (Fires line x after × WithinCapacity after))
+    × ((step line x ≡ refused Full) ↔ ((after : Line) × Fires line x after × ¬ WithinCapacity after))
+
+-- 5. The eleven starred situations, as one set; and the further examples.
+abbrev pub SituationsHold : Type 0
+SituationsHold = (x : Situation) → Member x situations → Holds x
+
+abbrev pub ExamplesHold : Type 0
+ExamplesHold = (x : Situation) → Member x examples → Holds x
+
+-- 6. "No step sends to its own station, and no step sends two messages to one station."
+abbrev pub Apart : List Send → Type 0
+Apart [] = Unit {0}
+Apart (m ∷ l) = ((k : Send) → Member k l → m .to ≢ k .to) × Apart l
+
+abbrev pub SendsApart : Type 0
+SendsApart =
+    (alone : Bool) (s : Site) (a : Action) (e : Effect) → Sided s → act alone s a ≡ done e
+    → ((m : Send) → Member m (e .sends) → m .to ≢ number s) × Apart (e .sends)
+
+-- 7. A refused step changes nothing: the run stops with the line as it was. Whatever a run leaves, the steps done alone leave.
+abbrev pub RefusedChangesNothing : Type 0
+RefusedChangesNothing =
+    (line : Line) (x : Reading) (l : List Reading) (r : Refusal) → try line x ≡ refused r → run line (x ∷ l) ≡ record { ending = Stopped r; steps = 0; line = line }
+
+abbrev pub StepsDoneAlone : Type 0
+StepsDoneAlone =
+    (line : Line) (l : List Reading)
+    → run line (take ((run line l) .steps) l) ≡ record { ending = Complete; steps = (run line l) .steps; line = (run line l) .line }

@@ -1,0 +1,119 @@
+-- The situations of document 01 ("Thirteen situations to try") that have a star, as one list, and what is claimed of each.
+use Prim.Native.Nat.{ℕ}
+use mathlib.Core.Path.{_≡_}
+use mathlib.Core.Bool.{Bool, true, false}
+use mathlib.Core.List.{List, [], _∷_}
+use Rattle.line.specs.declared.Neighbour.{Neighbour}
+use Rattle.line.specs.declared.Neighbour.the-variants.{None, Station}
+use Rattle.line.specs.declared.Message.{Message}
+use Rattle.line.specs.declared.Step as declared
+use Rattle.line.specs.declared.Side.the-variants.{Left, Right}
+use Rattle.line.specs.declared.Action.the-variants.{Timeout, Deliver, Exit}
+use Rattle.line.specs.declared.Refusal.the-variants.{Held}
+use Rattle.line.specs.Answer.{Answer, refused, done}
+use Rattle.line.specs.Message.{introduction, removal}
+use Rattle.line.specs.Site.{Site, Line}
+use Rattle.line.specs.Step.{step}
+use Rattle.line.specs.Accepted.{accepted}
+
+-- a line, a step, and what the step gives
+pub record Situation : Type 0 where
+  pub before : Line
+  pub step : declared.Step
+  pub gives : Answer Line
+
+-- the line is accepted, and the step gives exactly that
+abbrev pub Holds : Situation → Type 0
+Holds x = (accepted (x .before) ≡ true) × (step (x .before) (x .step) ≡ x .gives)
+
+abbrev pub site : ℕ → Neighbour → Neighbour → Bool → List Message → Site
+site n l r leaving b = record { station = record { number = n; left = l; right = r; leaving = leaving }; bag = b }
+
+abbrev pub staying : ℕ → Neighbour → Neighbour → List Message → Site
+staying n l r b = site n l r false b
+
+abbrev pub leaving : ℕ → Neighbour → Neighbour → List Message → Site
+leaving n l r b = site n l r true b
+
+-- a station with no neighbours, and its bag
+abbrev pub single : ℕ → List Message → Site
+single n b = staying n None None b
+
+abbrev pub timeoutAt : ℕ → declared.Step
+timeoutAt n = record { station = n; action = Timeout }
+
+abbrev pub deliverTo : ℕ → Message → declared.Step
+deliverTo n m = record { station = n; action = Deliver m }
+
+abbrev pub exitOf : ℕ → declared.Step
+exitOf n = record { station = n; action = Exit }
+
+-- "Station 5 has left 3 and right 9 unless said; all named stations are present and bags that receive have room."
+unfoldable pub situations : List Situation
+situations =
+    -- 1: introduction 7: right 7; 7 receives introduction 9
+    record {
+      before = single 3 [] ∷ staying 5 (Station 3) (Station 9) (introduction 7 ∷ []) ∷ single 7 [] ∷ single 9 [] ∷ [];
+      step = deliverTo 5 (introduction 7);
+      gives = done (single 3 [] ∷ staying 5 (Station 3) (Station 7) [] ∷ single 7 (introduction 9 ∷ []) ∷ single 9 [] ∷ []);
+    } ∷
+    -- 2: introduction 9: one copy gone, no more
+    record {
+      before = single 3 [] ∷ staying 5 (Station 3) (Station 9) (introduction 9 ∷ introduction 9 ∷ []) ∷ single 9 [] ∷ [];
+      step = deliverTo 5 (introduction 9);
+      gives = done (single 3 [] ∷ staying 5 (Station 3) (Station 9) (introduction 9 ∷ []) ∷ single 9 [] ∷ []);
+    } ∷
+    -- 3: introduction 12: 9 receives introduction 12
+    record {
+      before = single 3 [] ∷ staying 5 (Station 3) (Station 9) (introduction 12 ∷ []) ∷ single 9 [] ∷ single 12 [] ∷ [];
+      step = deliverTo 5 (introduction 12);
+      gives = done (single 3 [] ∷ staying 5 (Station 3) (Station 9) [] ∷ single 9 (introduction 12 ∷ []) ∷ single 12 [] ∷ []);
+    } ∷
+    -- 4: right none, introduction 12: right 12, nothing sent
+    record {
+      before = single 3 [] ∷ staying 5 (Station 3) None (introduction 12 ∷ []) ∷ single 12 [] ∷ [];
+      step = deliverTo 5 (introduction 12);
+      gives = done (single 3 [] ∷ staying 5 (Station 3) (Station 12) [] ∷ single 12 [] ∷ []);
+    } ∷
+    -- 5: introduction 5: one copy gone, no more
+    record {
+      before = single 3 [] ∷ staying 5 (Station 3) (Station 9) (introduction 5 ∷ introduction 5 ∷ []) ∷ single 9 [] ∷ [];
+      step = deliverTo 5 (introduction 5);
+      gives = done (single 3 [] ∷ staying 5 (Station 3) (Station 9) (introduction 5 ∷ []) ∷ single 9 [] ∷ []);
+    } ∷
+    -- 6: staying, remove-left: 3 receives introduction 5; left none
+    record {
+      before = single 3 [] ∷ staying 5 (Station 3) (Station 9) (removal Left ∷ []) ∷ single 9 [] ∷ [];
+      step = deliverTo 5 (removal Left);
+      gives = done (single 3 (introduction 5 ∷ []) ∷ staying 5 None (Station 9) [] ∷ single 9 [] ∷ []);
+    } ∷
+    -- 7: leaving, remove-left: one copy gone, no more
+    record {
+      before = single 3 [] ∷ leaving 5 (Station 3) (Station 9) (removal Left ∷ removal Left ∷ []) ∷ single 9 [] ∷ [];
+      step = deliverTo 5 (removal Left);
+      gives = done (single 3 [] ∷ leaving 5 (Station 3) (Station 9) (removal Left ∷ []) ∷ single 9 [] ∷ []);
+    } ∷
+    -- 8: leaving, remove-right: 9 receives introduction 5; right none
+    record {
+      before = single 3 [] ∷ leaving 5 (Station 3) (Station 9) (removal Right ∷ []) ∷ single 9 [] ∷ [];
+      step = deliverTo 5 (removal Right);
+      gives = done (single 3 [] ∷ leaving 5 (Station 3) None [] ∷ single 9 (introduction 5 ∷ []) ∷ []);
+    } ∷
+    -- 9: leaving, timeout: 3 receives remove-right, 9 receives remove-left
+    record {
+      before = single 3 [] ∷ leaving 5 (Station 3) (Station 9) [] ∷ single 9 [] ∷ [];
+      step = timeoutAt 5;
+      gives = done (single 3 (removal Right ∷ []) ∷ leaving 5 (Station 3) (Station 9) [] ∷ single 9 (removal Left ∷ []) ∷ []);
+    } ∷
+    -- 10: leaving, NIDEC holds, exit: 9 receives introduction 3, 3 receives introduction 9, block gone
+    record {
+      before = single 3 [] ∷ leaving 5 (Station 3) (Station 9) [] ∷ single 9 [] ∷ [];
+      step = exitOf 5;
+      gives = done (single 3 (introduction 9 ∷ []) ∷ single 9 (introduction 3 ∷ []) ∷ []);
+    } ∷
+    -- 11: the same, but 5's bag holds a remove-left: 14
+    record {
+      before = single 3 [] ∷ leaving 5 (Station 3) (Station 9) (removal Left ∷ []) ∷ single 9 [] ∷ [];
+      step = exitOf 5;
+      gives = refused Held;
+    } ∷ []
