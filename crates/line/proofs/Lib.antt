@@ -1,1 +1,14 @@
+pub mod Lists
+pub mod Answers
+pub mod Messages
+pub mod Chains
+pub mod Sides
+pub mod Sends
+pub mod Local
+pub mod NidecTest
+pub mod Whole
+pub mod Runs
+pub mod WrittenOrder
+pub mod AcceptedTest
+pub mod InLineTest
 pub mod Worked

@@ -1,0 +1,157 @@
+-- The test `accepted` says what Accepted says.
+use mathlib.Core.Path.{_≡_, refl, sym, _∙_, ap}
+use mathlib.Core.Logic.{_↔_, _≢_}
+use mathlib.Core.Bool.{Bool, true, false, not, _&&_}
+use mathlib.Core.List.{List, [], _∷_, List·Memᴰ·not-nil, Memᴰ·cast}
+use mathlib.Core.List.{List·Memᴰ as Member, List·Memᴰ·head as here, List·Memᴰ·tail as there}
+use Prim.Native.Nat.{ℕ, _≤_}
+use native.Mathlib.Omega.{arith}
+use lib.Dec.{eqb, leb}
+use borrow.Author.Tests.{leb-true, le-leb, eqb-true, eqb-false, eq-eqb, ne-eqb, not-true}
+use lib.ListN.{length}
+use Rattle.line.specs.declared.Neighbour.{Neighbour}
+use Rattle.line.specs.declared.Neighbour.the-variants.{None, Station}
+use Rattle.line.specs.declared.Content.{Content}
+use Rattle.line.specs.declared.Content.the-variants.{Introduction, RemoveLeft, RemoveRight}
+use Rattle.line.specs.declared.Message.{Message}
+use Rattle.line.specs.declared.Side.{Side}
+use Rattle.line.specs.declared.Side.the-variants.{Left, Right}
+use Rattle.line.specs.Lists.{all}
+use Rattle.line.specs.Message.{introduction, capacity}
+use Rattle.line.specs.Site.{Site, Line, number, numbers, Present, Beyond, beyond, neighbour}
+use Rattle.line.specs.Links.{Linked, by-neighbour, by-introduction}
+use Rattle.line.specs.Accepted.{Distinct, Sided, Accepted, inRange, hasSmallBag, liesBeyond, hasSides, areDistinct, isPresent, knowsNeighbour, knowsContent, namesPresent, accepted}
+use Rattle.line.specs.Claims.{AcceptedTested}
+use Rattle.line.proofs.Lists.{and-both, both-and, all-true, true-all, any-true, true-any, mem-map}
+use Rattle.line.proofs.Sides.{none-station, station-inj, beyond-true, true-beyond}
+use Rattle.line.proofs.Whole.{site-of}
+
+pub in-range : (n : ℕ) → (inRange n ≡ true) ↔ ((1 ≤ n) × (n ≤ 999999))
+unfolding inRange
+in-range n =
+    (λ e. let h = and-both (leb 1 n) (leb n 999999) e in (leb-true 1 n (h .0), leb-true n 999999 (h .1)),
+    λ h. both-and (le-leb 1 n (h .0)) (le-leb n 999999 (h .1)))
+
+pub small-bag : (s : Site) → (hasSmallBag s ≡ true) ↔ (length (s .bag) ≤ capacity)
+unfolding hasSmallBag
+small-bag s = (leb-true (length (s .bag)) capacity, le-leb (length (s .bag)) capacity)
+
+-- a neighbour on its side
+lies-beyond : (d : Side) (p : ℕ) (k : Neighbour) → (liesBeyond d p k ≡ true) ↔ ((q : ℕ) → k ≡ Station q → Beyond d p q)
+unfolding liesBeyond
+lies-beyond d p None = (λ e q z. none-station z, λ h. refl)
+lies-beyond d p (Station r) = (λ e q z. beyond-true d p q (rw (station-inj z) at e), λ h. true-beyond d p r (h r refl))
+
+pub has-sides : (s : Site) → (hasSides s ≡ true) ↔ Sided s
+unfolding hasSides neighbour
+has-sides s =
+    (λ e. let h = and-both (liesBeyond Left (number s) (s .station .left)) (liesBeyond Right (number s) (s .station .right)) e in
+    λ d. elim d as (λ (d : Side). (q : ℕ) → neighbour d (s .station) ≡ Station q → Beyond d (number s) q) [
+      | Left ↦ lies-beyond Left (number s) (s .station .left) .0 (h .0)
+      | Right ↦ lies-beyond Right (number s) (s .station .right) .0 (h .1)
+    ],
+    λ h. both-and (lies-beyond Left (number s) (s .station .left) .1 (h Left)) (lies-beyond Right (number s) (s .station .right) .1 (h Right)))
+
+pub are-distinct : (l : List ℕ) → (areDistinct l ≡ true) ↔ Distinct l
+unfolding areDistinct
+are-distinct [] = (λ e. tt, λ h. refl)
+are-distinct (n ∷ l) = go (are-distinct l)
+  where
+    other : ℕ → Bool
+    other k = not (eqb n k)
+
+    differs : (k : ℕ) → other k ≡ true → n ≢ k
+    differs k e = eqb-false n k (not-true (eqb n k) e)
+
+    go : (areDistinct l ≡ true) ↔ Distinct l → ((all other l && areDistinct l) ≡ true) ↔ (((k : ℕ) → Member k l → n ≢ k) × Distinct l)
+    go r =
+        (λ e. let h = and-both (all other l) (areDistinct l) e in (λ k m. differs k (all-true other (h .0) m), r .0 (h .1)),
+        λ h. both-and (true-all other l (λ k m. rw (ne-eqb n k (h .0 k m)) refl)) (r .1 (h .1)))
+
+module _ (line : Line) where
+  pub is-present : (n : ℕ) → (isPresent line n ≡ true) ↔ Present line n
+  unfolding isPresent
+  is-present n =
+      (λ e. let w = any-true (λ (s : Site). eqb n (number s)) line e in Memᴰ·cast (eqb-true n (number (w .0)) (w .2)) (mem-map number (w .1)),
+      λ m. let w = site-of line m in true-any (λ (s : Site). eqb n (number s)) (w .1) (eq-eqb n (number (w .0)) (w .2)))
+
+  knows-neighbour : (k : Neighbour) → (knowsNeighbour line k ≡ true) ↔ ((q : ℕ) → k ≡ Station q → Present line q)
+  unfolding knowsNeighbour
+  knows-neighbour None = (λ e q z. none-station z, λ h. refl)
+  knows-neighbour (Station r) = (λ e q z. rw (station-inj z) at (is-present r .0 e), λ h. is-present r .1 (h r refl))
+
+  knows-content : (m : Message) → (knowsContent line (m .content) ≡ true) ↔ ((q : ℕ) → introduction q ≡ m → Present line q)
+  unfolding knowsContent
+  knows-content m = go (m .content) refl
+    where
+      message-is : {c : Content} {q : ℕ} → m .content ≡ c → introduction q ≡ m → Introduction q ≡ c
+      message-is e z = ap (λ (k : Message). k .content) z ∙ e
+
+      go : (c : Content) → m .content ≡ c → (knowsContent line c ≡ true) ↔ ((q : ℕ) → introduction q ≡ m → Present line q)
+      go (Introduction r) e =
+          (λ k q z. let w = message-is e z in let i : r ≡ q = cc in rw i at (is-present r .0 k),
+          λ h. is-present r .1 (h r (ap (λ (c : Content). record { content = c }) (sym e))))
+      go RemoveLeft e = (λ k q z. let w = message-is e z in absurd (let i : _≡_ {A = ℕ} 0 1 = cc in omega arith), λ h. refl)
+      go RemoveRight e = (λ k q z. let w = message-is e z in absurd (let i : _≡_ {A = ℕ} 0 1 = cc in omega arith), λ h. refl)
+
+  heard : Message → Bool
+  heard m = knowsContent line (m .content)
+
+  pub names-present : (s : Site) → (namesPresent line s ≡ true) ↔ ((q : ℕ) → Linked s q → Present line q)
+  unfolding namesPresent heard neighbour
+  names-present s = (forth, back)
+    where
+      forth : namesPresent line s ≡ true → (q : ℕ) → Linked s q → Present line q
+      forth e q l = go l
+        where
+          parts : ((knowsNeighbour line (s .station .left) && knowsNeighbour line (s .station .right)) ≡ true) × (all heard (s .bag) ≡ true)
+          parts = and-both (knowsNeighbour line (s .station .left) && knowsNeighbour line (s .station .right)) (all heard (s .bag)) e
+
+          sides : (knowsNeighbour line (s .station .left) ≡ true) × (knowsNeighbour line (s .station .right) ≡ true)
+          sides = and-both (knowsNeighbour line (s .station .left)) (knowsNeighbour line (s .station .right)) (parts .0)
+
+          go : Linked s q → Present line q
+          go (by-neighbour Left h) = knows-neighbour (s .station .left) .0 (sides .0) q h
+          go (by-neighbour Right h) = knows-neighbour (s .station .right) .0 (sides .1) q h
+          go (by-introduction m) = knows-content (introduction q) .0 (all-true heard (parts .1) m) q refl
+
+      back : ((q : ℕ) → Linked s q → Present line q) → namesPresent line s ≡ true
+      back h =
+          both-and
+          (both-and (knows-neighbour (s .station .left) .1 (λ q z. h q (by-neighbour Left z))) (knows-neighbour (s .station .right) .1 (λ q z. h q (by-neighbour Right z))))
+          (true-all heard (s .bag) (λ m k. knows-content m .1 (λ q z. h q (by-introduction (Memᴰ·cast z k)))))
+
+-- a test of every site, and what it says of every site
+every : (f : Site → Bool) (P : Site → Type 0) → ((s : Site) → (f s ≡ true) ↔ P s) → (line : Line) → (all f line ≡ true) ↔ ((s : Site) → Member s line → P s)
+every f P t line = (λ e s m. t s .0 (all-true f e m), λ h. true-all f line (λ s m. t s .1 (h s m)))
+
+pub accepted-tested : AcceptedTested
+unfolding accepted
+accepted-tested line = (forth, back)
+  where
+    ranged : (s : Site) → (inRange (number s) ≡ true) ↔ ((1 ≤ number s) × (number s ≤ 999999))
+    ranged s = in-range (number s)
+
+    forth : accepted line ≡ true → Accepted line
+    forth e =
+        let a = and-both (leb (length line) 64) _ e in
+        let b = and-both (all (λ (s : Site). inRange (number s)) line) _ (a .1) in
+        let c = and-both (all hasSmallBag line) _ (b .1) in
+        let d = and-both (all hasSides line) _ (c .1) in
+        let f = and-both (areDistinct (numbers line)) (all (namesPresent line) line) (d .1) in
+        record {
+          few = leb-true (length line) 64 (a .0);
+          ranged = every (λ (s : Site). inRange (number s)) _ ranged line .0 (b .0);
+          small = every hasSmallBag _ small-bag line .0 (c .0);
+          sided = every hasSides _ has-sides line .0 (d .0);
+          distinct = are-distinct (numbers line) .0 (f .0);
+          known = every (namesPresent line) _ (names-present line) line .0 (f .1);
+        }
+
+    back : Accepted line → accepted line ≡ true
+    back h =
+        both-and (le-leb (length line) 64 (h .few))
+        (both-and (every (λ (s : Site). inRange (number s)) _ ranged line .1 (h .ranged))
+        (both-and (every hasSmallBag _ small-bag line .1 (h .small))
+        (both-and (every hasSides _ has-sides line .1 (h .sided))
+        (both-and (are-distinct (numbers line) .1 (h .distinct)) (every (namesPresent line) _ (names-present line) line .1 (h .known))))))
