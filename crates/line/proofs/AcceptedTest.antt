@@ -28,9 +28,10 @@ use Rattle.line.proofs.Whole.{site-of}
 
 pub in-range : (n : ℕ) → (inRange n ≡ true) ↔ ((1 ≤ n) × (n ≤ 999999))
 unfolding inRange
-in-range n =
-    (λ e. let h = and-both (leb 1 n) (leb n 999999) e in (leb-true 1 n (h .0), leb-true n 999999 (h .1)),
-    λ h. both-and (le-leb 1 n (h .0)) (le-leb n 999999 (h .1)))
+in-range n = (
+  λ e. let h = and-both (leb 1 n) (leb n 999999) e in (leb-true 1 n (h .0), leb-true n 999999 (h .1)),
+  λ h. both-and (le-leb 1 n (h .0)) (le-leb n 999999 (h .1)),
+)
 
 pub small-bag : (s : Site) → (hasSmallBag s ≡ true) ↔ (length (s .bag) ≤ capacity)
 unfolding hasSmallBag
@@ -44,13 +45,14 @@ lies-beyond d p (Station r) = (λ e q z. beyond-true d p q (rw (station-inj z) a
 
 pub has-sides : (s : Site) → (hasSides s ≡ true) ↔ Sided s
 unfolding hasSides neighbour
-has-sides s =
-    (λ e. let h = and-both (liesBeyond Left (number s) (s .station .left)) (liesBeyond Right (number s) (s .station .right)) e in
-    λ d. elim d as (λ (d : Side). (q : ℕ) → neighbour d (s .station) ≡ Station q → Beyond d (number s) q) [
-      | Left ↦ lies-beyond Left (number s) (s .station .left) .0 (h .0)
-      | Right ↦ lies-beyond Right (number s) (s .station .right) .0 (h .1)
-    ],
-    λ h. both-and (lies-beyond Left (number s) (s .station .left) .1 (h Left)) (lies-beyond Right (number s) (s .station .right) .1 (h Right)))
+has-sides s = (
+  λ e. let h = and-both (liesBeyond Left (number s) (s .station .left)) (liesBeyond Right (number s) (s .station .right)) e in
+      λ d. elim d as (λ (d : Side). (q : ℕ) → neighbour d (s .station) ≡ Station q → Beyond d (number s) q) [
+        | Left ↦ lies-beyond Left (number s) (s .station .left) .0 (h .0)
+        | Right ↦ lies-beyond Right (number s) (s .station .right) .0 (h .1)
+      ],
+  λ h. both-and (lies-beyond Left (number s) (s .station .left) .1 (h Left)) (lies-beyond Right (number s) (s .station .right) .1 (h Right)),
+)
 
 pub are-distinct : (l : List ℕ) → (areDistinct l ≡ true) ↔ Distinct l
 unfolding areDistinct
@@ -64,16 +66,18 @@ are-distinct (n ∷ l) = go (are-distinct l)
     differs k e = eqb-false n k (not-true (eqb n k) e)
 
     go : (areDistinct l ≡ true) ↔ Distinct l → ((all other l && areDistinct l) ≡ true) ↔ (((k : ℕ) → Member k l → n ≢ k) × Distinct l)
-    go r =
-        (λ e. let h = and-both (all other l) (areDistinct l) e in (λ k m. differs k (all-true other (h .0) m), r .0 (h .1)),
-        λ h. both-and (true-all other l (λ k m. rw (ne-eqb n k (h .0 k m)) refl)) (r .1 (h .1)))
+    go r = (
+      λ e. let h = and-both (all other l) (areDistinct l) e in (λ k m. differs k (all-true other (h .0) m), r .0 (h .1)),
+      λ h. both-and (true-all other l (λ k m. rw (ne-eqb n k (h .0 k m)) refl)) (r .1 (h .1)),
+    )
 
 module _ (line : Line) where
   pub is-present : (n : ℕ) → (isPresent line n ≡ true) ↔ Present line n
   unfolding isPresent
-  is-present n =
-      (λ e. let w = any-true (λ (s : Site). eqb n (number s)) line e in Memᴰ·cast (eqb-true n (number (w .0)) (w .2)) (mem-map number (w .1)),
-      λ m. let w = site-of line m in true-any (λ (s : Site). eqb n (number s)) (w .1) (eq-eqb n (number (w .0)) (w .2)))
+  is-present n = (
+    λ e. let w = any-true (λ (s : Site). eqb n (number s)) line e in Memᴰ·cast (eqb-true n (number (w .0)) (w .2)) (mem-map number (w .1)),
+    λ m. let w = site-of line m in true-any (λ (s : Site). eqb n (number s)) (w .1) (eq-eqb n (number (w .0)) (w .2)),
+  )
 
   knows-neighbour : (k : Neighbour) → (knowsNeighbour line k ≡ true) ↔ ((q : ℕ) → k ≡ Station q → Present line q)
   unfolding knowsNeighbour
@@ -88,9 +92,10 @@ module _ (line : Line) where
       message-is e z = ap (λ (k : Message). k .content) z ∙ e
 
       go : (c : Content) → m .content ≡ c → (knowsContent line c ≡ true) ↔ ((q : ℕ) → introduction q ≡ m → Present line q)
-      go (Introduction r) e =
-          (λ k q z. let w = message-is e z in let i : r ≡ q = cc in rw i at (is-present r .0 k),
-          λ h. is-present r .1 (h r (ap (λ (c : Content). record { content = c }) (sym e))))
+      go (Introduction r) e = (
+        λ k q z. let w = message-is e z in let i : r ≡ q = cc in rw i at (is-present r .0 k),
+        λ h. is-present r .1 (h r (ap (λ (c : Content). record { content = c }) (sym e))),
+      )
       go RemoveLeft e = (λ k q z. let w = message-is e z in absurd (let i : _≡_ {A = ℕ} 0 1 = cc in omega arith), λ h. refl)
       go RemoveRight e = (λ k q z. let w = message-is e z in absurd (let i : _≡_ {A = ℕ} 0 1 = cc in omega arith), λ h. refl)
 

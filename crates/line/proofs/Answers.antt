@@ -1,5 +1,6 @@
 -- Laws of answers.
-use mathlib.Core.Path.{_≡_, refl}
+use mathlib.Core.Path.{_≡_, refl, ap}
+use mathlib.Core.Logic.{_≢_}
 use mathlib.Core.Bool.{Bool, true, false}
 use Prim.Native.Nat.{ℕ}
 use native.Mathlib.Omega.{arith}
@@ -17,6 +18,20 @@ pub bound : {A B : Type 0} (x : Answer A) (f : A → Answer B) {b : B} → (x >>
 unfolding _>>=_
 bound (refused r) f e = refused-done e
 bound (done a) f e = (a, refl, e)
+
+-- what was refused, and not at the start, was refused after that
+pub bound-refused : {A B : Type 0} (x : Answer A) (f : A → Answer B) {r : Refusal} → x ≢ refused r → (x >>= f) ≡ refused r → (a : A) × (x ≡ done a) × (f a ≡ refused r)
+unfolding _>>=_
+bound-refused (refused q) f h e = absurd (h (ap refused (cc)))
+bound-refused (done a) f h e = (a, refl, e)
+
+pub require-true : {A : Type 0} (t : Bool) (r : Refusal) (x : Answer A) → t ≡ true → require t r x ≡ x
+unfolding require
+require-true t r x e = rw e
+
+pub require-false : {A : Type 0} (t : Bool) (r : Refusal) (x : Answer A) → t ≡ false → require t r x ≡ refused r
+unfolding require
+require-false t r x e = rw e
 
 -- what was done under a test
 pub required : {A : Type 0} (t : Bool) (r : Refusal) {x : Answer A} {a : A} → require t r x ≡ done a → (t ≡ true) × (x ≡ done a)

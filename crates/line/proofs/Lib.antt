@@ -11,4 +11,6 @@ pub mod Runs
 pub mod WrittenOrder
 pub mod AcceptedTest
 pub mod InLineTest
+pub mod ReportLocal
+pub mod Report
 pub mod Worked

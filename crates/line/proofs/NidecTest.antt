@@ -72,10 +72,11 @@ module _ (line : Line) (p : Site) where
 
   tested : (nidec line p ≡ true) ↔ Nidec line p
   unfolding nidec silent
-  tested =
-      (λ e. let h = and-both (isEmpty (p .bag)) (all silent line) e in
-      record { empty = is-empty (p .bag) (h .0); unnamed = λ s m. silent-unnamed s (all-true silent (h .1) m) },
-      λ n. both-and (empty-is (n .empty)) (true-all silent line (λ s m. unnamed-silent s (n .unnamed s m))))
+  tested = (
+    λ e. let h = and-both (isEmpty (p .bag)) (all silent line) e in
+        record { empty = is-empty (p .bag) (h .0); unnamed = λ s m. silent-unnamed s (all-true silent (h .1) m) },
+    λ n. both-and (empty-is (n .empty)) (true-all silent line (λ s m. unnamed-silent s (n .unnamed s m))),
+  )
 
 pub nidec-tested : NidecTested
 nidec-tested line p = tested line p

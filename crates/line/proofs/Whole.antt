@@ -172,11 +172,11 @@ module _ (n : ℕ) (m : Message) (line : Line) where
       link (receive m (w .0)) (takes-it n (receive m) (w .1) (sym (w .2) ∙ h)) (receive-number m (w .0) ∙ sym (w .2)) (receive-there m (w .0) e)
 
 -- station n has room
-pub Room : Line → ℕ → Type 0
+abbrev pub Room : Line → ℕ → Type 0
 Room line n = (t : Site) → Member t line → number t ≡ n → length (t .bag) < capacity
 
 pub has-room : (n : ℕ) (line : Line) → hasRoom line n ≡ true → Room line n
-unfolding hasRoom Room
+unfolding hasRoom
 has-room n line e t m h =
     ⊎-elim (λ i. clash (eq-eqb (number t) n h) (not-is (eqb (number t) n) i)) (λ i. ltb-true (length (t .bag)) capacity i)
     (or-cases (not (eqb (number t) n)) (ltb (length (t .bag)) capacity) (all-true (λ (t : Site). not (eqb (number t) n) || ltb (length (t .bag)) capacity) e m))
@@ -186,7 +186,7 @@ has-room n line e t m h =
     not-is false i = refl
 
 posted-room : (n : ℕ) (m : Message) (line : Line) (k : ℕ) → n ≢ k → Room line k → Room (posted n m line) k
-unfolding posted Room
+unfolding posted
 posted-room n m line k h r t i e =
     ⊎-elim (λ q. r t (q .0) e) (λ w. absurd (h (sym (w .2) ∙ sym (receive-number m (w .0)) ∙ sym (ap number (w .3)) ∙ e))) (changed-mem n (receive m) line i)
 
@@ -200,7 +200,7 @@ pub record Posted (line : Line) (l : List Send) (after : Line) : Type 0 where
   pub fit : ((s : Site) → Member s line → Fit (s .bag)) → (s : Site) → Member s after → Fit (s .bag)
 
 sent-all : (l : List Send) (line : Line) → Apart l → ((m : Send) → Member m l → Room line (m .to)) → Posted line l (sendAll l line)
-unfolding sendAll posted Room
+unfolding sendAll posted
 sent-all [] line a r = record {
   alike = refl;
   links = λ x y h. inl h;
@@ -406,7 +406,7 @@ module _ (line : Line) (ok : Sound line) (s : Site) (there-is : Member s line) w
 
 -- the room that a receiver has is not touched by what happens at the sender
 replaced-room : (n : ℕ) (o : Option Site) (line : Line) (k : ℕ) → ((u : Site) → o ≡ some u → number u ≡ n) → k ≢ n → Room line k → Room (replace n o line) k
-unfolding replace Room
+unfolding replace
 replaced-room n none line k h z r t m e = r t (without-mem n line m .0) e
 replaced-room n (some u) line k h z r t m e =
     ⊎-elim (λ w. r t (w .0) e) (λ w. absurd (z (sym e ∙ ap number (w .3) ∙ h u refl))) (changed-mem n (λ (t : Site). u) line m)

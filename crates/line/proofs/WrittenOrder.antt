@@ -170,9 +170,12 @@ module _ (line : Line) where
   link-ordered x y (link s m e l) = link (withBagInOrder s) (mem-ordered line m) (tidy-number s ∙ e) (links-tidy s l)
 
 pub written-order-keeps : WrittenOrderKeeps
-written-order-keeps line a =
-    (ordered-accepted line a, ordered-written line (a .distinct), ordered-alike line (a .distinct),
-    λ x y. (carry (λ p q l. forward (link-ordered line p q l)), carry (λ p q l. forward (ordered-link line p q l))))
+written-order-keeps line a = (
+  ordered-accepted line a,
+  ordered-written line (a .distinct),
+  ordered-alike line (a .distinct),
+  λ x y. (carry (λ p q l. forward (link-ordered line p q l)), carry (λ p q l. forward (ordered-link line p q l))),
+)
 
 -- two lines with rising numbers, the same stations and the same site for each number are equal
 same-line : (a b : Line) → Rising (numbers a) → Rising (numbers b) → ((n : ℕ) → Present a n ↔ Present b n)
