@@ -1,3 +1,5 @@
+-- Why the claims hold. Worked examples first: they pin the rules that the laws leave open.
+pub mod Worked
 pub mod Lists
 pub mod Answers
 pub mod Messages
@@ -13,4 +15,3 @@ pub mod AcceptedTest
 pub mod InLineTest
 pub mod ReportLocal
 pub mod Report
-pub mod Worked
