@@ -1,0 +1,4 @@
+-- What a reader must believe of the arrays, in reading order.
+pub mod Arrays
+pub mod Order
+pub mod Claims

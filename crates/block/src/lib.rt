@@ -1,0 +1,127 @@
+// One block of 512 bytes (document 01, "The block").
+pub mod fields;
+pub mod places;
+pub mod stations;
+pub mod writing;
+
+use bag::Bag;
+use fields::fields_hold;
+use line::Message;
+use line::Neighbour;
+use line::Station;
+use octets::check_sum;
+use octets::word_at;
+use places::message_of;
+use places::place_at;
+use stations::has_sides;
+pub use stations::station_of;
+pub use writing::write_block;
+ghost use mathlib.Core.Path.{_≡_};
+ghost use mathlib.Core.Bool.{cond};
+ghost use Prim.Native.Nat.{_≤_};
+ghost use lib.ListN.{length};
+ghost use Rattle.line.specs.Lists.{sort};
+ghost use Rattle.line.specs.Message.{precedes};
+ghost use Rattle.bag.specs.Held.{held};
+ghost use Rattle.octets.specs.Bytes.{word};
+ghost use Rattle.block.specs.Layout.{checkHolds, messages, faultOf};
+ghost use Rattle.block.specs.Said.{ReadAs, nobody};
+
+// What a message place holds.
+pub enum Place {
+    Good(Message),
+    Bad,
+}
+
+// What reading a block gives: its smallest fault, or 0 with the station and its bag in written order.
+pub struct Read {
+    pub fault: u32,
+    pub station: Station,
+    pub bag: Bag,
+}
+
+// "The 256 words of 16 bits, added with wrap at 65,536, give 65,535."
+fn check_holds(b: &[u8]) -> bool
+    requires { ⌜ length (now b) ≡ 512 ⌝ }
+    ensures { λ r. ⌜ r ≡ checkHolds (now (b .entry)) ⌝ }
+{
+    check_sum(b) == 65535
+}
+
+// The smallest of 3, 4 and 5 whose rule does not hold, or 0.
+fn first_fault(check: bool, fields: bool, sides: bool) -> u32
+    ensures { λ r. ⌜ r ≡ cond check (cond fields (cond sides 0 5) 4) 3 ⌝ }
+{
+    if !check {
+        return 3;
+    }
+    if !fields {
+        return 4;
+    }
+    if !sides {
+        return 5;
+    }
+    0
+}
+
+pub fn fault_of(b: &[u8]) -> u32
+    requires { ⌜ length (now b) ≡ 512 ⌝ }
+    ensures { λ r. ⌜ r ≡ faultOf (now (b .entry)) ⌝ }
+{
+    let check = check_holds(b);
+    let fields = fields_hold(b);
+    let sides = has_sides(station_of(b));
+    first_fault(check, fields, sides)
+}
+
+// The messages of the counted places in written order. They are put from the last place to the first, so that each turn is one
+// clause of the sorting.
+pub fn bag_of(b: &[u8]) -> Bag
+    requires { ⌜ (length (now b) ≡ 512) × (word (now b) 16 ≤ 32) ⌝ }
+    ensures { λ r. ⌜ (held r ≡ sort precedes (messages (now (b .entry)) (word (now (b .entry)) 16))) × (r .count ≡ word (now (b .entry)) 16) ⌝ }
+{
+    let n = word_at(b, 16) as usize;
+    let mut bag = Bag::empty();
+    let mut i = n;
+    while 0 < i {
+        i -= 1;
+        let next = bag.put(message_of(place_at(b, i)));
+        bag = next;
+    }
+    bag
+}
+
+// The station of a block that is not accepted.
+fn no_station() -> Station
+    ensures { λ r. ⌜ r ≡ nobody .station ⌝ }
+{
+    Station {
+        number: 0,
+        left: Neighbour::None,
+        right: Neighbour::None,
+        leaving: false,
+    }
+}
+
+pub fn read_block(b: &[u8]) -> Read
+    requires { ⌜ length (now b) ≡ 512 ⌝ }
+    ensures { λ r. ⌜ ReadAs (now (b .entry)) r ⌝ }
+{
+    let fault = fault_of(b);
+    if fault != 0 {
+        let station = no_station();
+        let bag = Bag::empty();
+        return Read {
+            fault,
+            station,
+            bag,
+        };
+    }
+    let station = station_of(b);
+    let bag = bag_of(b);
+    Read {
+        fault: 0,
+        station,
+        bag,
+    }
+}

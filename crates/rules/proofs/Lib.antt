@@ -1,0 +1,2 @@
+-- What the proofs of the rules share.
+pub mod Ways

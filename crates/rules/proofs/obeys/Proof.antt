@@ -1,0 +1,22 @@
+-- Both sides.
+use Rattle.line.specs.Act.{obeys}
+use borrow.Author.Needs.{needs}
+use Rattle.rules.proofs.obeys.Statement.{statement}
+use Rattle.rules.proofs.obeys.Tie as tie
+
+enum-told : tie.Need-enum-told
+enum-told c = search needs
+
+enum-told-2 : tie.Need-enum-told-2
+enum-told-2 c = search needs
+
+returns : tie.Need-returns
+unfolding obeys
+returns c = rw (c .before .enum-told .given .1)
+
+returns-2 : tie.Need-returns-2
+unfolding obeys
+returns-2 c = rw (c .enum-told2 .given .1)
+
+pub obeys-spec : {M : Type 1} → statement M
+obeys-spec = tie.close (tie.spec enum-told enum-told-2 returns returns-2)

@@ -1,0 +1,2 @@
+-- What a reader must believe of one station's part in a step.
+pub mod Decided

@@ -1,0 +1,345 @@
+// What one station does in a step (document 01, "What a step does at station p"). Left and right are one function over a side.
+use bag::Bag;
+use line::Action;
+use line::Content;
+use line::Message;
+use line::Neighbour;
+use line::Refusal;
+use line::Side;
+use line::Station;
+ghost use mathlib.Core.Path.{_≡_};
+ghost use mathlib.Core.Bool.{Bool, false};
+ghost use Rattle.line.specs.Message as message;
+ghost use Rattle.line.specs.Site as site;
+ghost use Rattle.line.specs.Act as act;
+ghost use Rattle.rules.specs.Decided.{sent, bothSent, reaction, Decides};
+
+// Nothing, or one message to one station.
+pub enum Sending {
+    Nothing,
+    To(u32, Message),
+}
+
+// No step sends more than two messages.
+pub struct Sendings {
+    pub first: Sending,
+    pub second: Sending,
+}
+
+// A station after a delivery, and what it sends.
+pub struct Reacted {
+    pub station: Station,
+    pub sending: Sending,
+}
+
+// Whether a step is done, as far as its own station goes.
+pub enum Verdict {
+    Done,
+    Refused(Refusal),
+}
+
+// A station's part in a step: refused, or its fields and bag afterwards, whether its block goes, and what it sends.
+pub struct Decision {
+    pub verdict: Verdict,
+    pub gone: bool,
+    pub station: Station,
+    pub bag: Bag,
+    pub sendings: Sendings,
+}
+
+fn opposite(side: Side) -> Side
+    ensures { λ r. ⌜ r ≡ site.opposite side ⌝ }
+{
+    match side {
+        Side::Left => Side::Right,
+        Side::Right => Side::Left,
+    }
+}
+
+fn beyond(side: Side, p: u32, q: u32) -> bool
+    ensures { λ r. ⌜ r ≡ site.beyond side p q ⌝ }
+{
+    match side {
+        Side::Left => q < p,
+        Side::Right => p < q,
+    }
+}
+
+fn side_of(p: u32, q: u32) -> Side
+    ensures { λ r. ⌜ r ≡ site.sideOf p q ⌝ }
+{
+    if p < q { Side::Right } else { Side::Left }
+}
+
+fn neighbour(side: Side, s: Station) -> Neighbour
+    ensures { λ r. ⌜ r ≡ site.neighbour side s ⌝ }
+{
+    match side {
+        Side::Left => s.left,
+        Side::Right => s.right,
+    }
+}
+
+fn with_neighbour(side: Side, n: Neighbour, s: Station) -> Station
+    ensures { λ r. ⌜ r ≡ site.withNeighbour side n s ⌝ }
+{
+    let left = s.left;
+    let right = s.right;
+    match side {
+        Side::Left => Station {
+            number: s.number,
+            left: n,
+            right,
+            leaving: s.leaving,
+        },
+        Side::Right => Station {
+            number: s.number,
+            left,
+            right: n,
+            leaving: s.leaving,
+        },
+    }
+}
+
+fn introduction(n: u32) -> Message
+    ensures { λ r. ⌜ r ≡ message.introduction n ⌝ }
+{
+    Message {
+        content: Content::Introduction(n),
+    }
+}
+
+fn removal(side: Side) -> Message
+    ensures { λ r. ⌜ r ≡ message.removal side ⌝ }
+{
+    match side {
+        Side::Left => Message {
+            content: Content::RemoveLeft,
+        },
+        Side::Right => Message {
+            content: Content::RemoveRight,
+        },
+    }
+}
+
+// "each where there is one"
+fn send_to(n: Neighbour, m: Message) -> Sending
+    ensures { λ r. ⌜ sent r ≡ act.sendTo n m ⌝ }
+{
+    match n {
+        Neighbour::None => Sending::Nothing,
+        Neighbour::Station(q) => Sending::To(q, m),
+    }
+}
+
+fn notice(p: Station, side: Side) -> Message
+    ensures { λ r. ⌜ r ≡ act.notice p side ⌝ }
+{
+    if p.leaving {
+        removal(opposite(side))
+    } else {
+        introduction(p.number)
+    }
+}
+
+fn timeout(p: Station) -> Sendings
+    ensures { λ r. ⌜ bothSent r ≡ act.timeout p ⌝ }
+{
+    let left = p.left;
+    let right = p.right;
+    let first = send_to(left, notice(p, Side::Left));
+    let second = send_to(right, notice(p, Side::Right));
+    Sendings { first, second }
+}
+
+fn unchanged(p: Station) -> Reacted
+    ensures { λ r. ⌜ reaction r ≡ act.unchanged p ⌝ }
+{
+    Reacted {
+        station: p,
+        sending: Sending::Nothing,
+    }
+}
+
+// An introduction of q, who lies on this side of p, where the neighbour is n.
+fn meet(side: Side, p: Station, q: u32, n: Neighbour) -> Reacted
+    ensures { λ r. ⌜ reaction r ≡ act.meet side p q n ⌝ }
+{
+    match n {
+        Neighbour::None => Reacted {
+            station: with_neighbour(side, Neighbour::Station(q), p),
+            sending: Sending::Nothing,
+        },
+        Neighbour::Station(r) => {
+            if beyond(side, q, r) {
+                return Reacted {
+                    station: with_neighbour(side, Neighbour::Station(q), p),
+                    sending: Sending::To(q, introduction(r)),
+                };
+            }
+            if q == r {
+                return unchanged(p);
+            }
+            Reacted {
+                station: p,
+                sending: Sending::To(r, introduction(q)),
+            }
+        }
+    }
+}
+
+fn introduced(p: Station, q: u32) -> Reacted
+    ensures { λ r. ⌜ reaction r ≡ act.introduced p q ⌝ }
+{
+    if q == p.number {
+        return unchanged(p);
+    }
+    let side = side_of(p.number, q);
+    meet(side, p, q, neighbour(side, p))
+}
+
+// The neighbour n on this side is dropped, with an introduction of p to it.
+fn drop_neighbour(side: Side, p: Station, n: Neighbour) -> Reacted
+    ensures { λ r. ⌜ reaction r ≡ act.dropNeighbour side p n ⌝ }
+{
+    match n {
+        Neighbour::None => unchanged(p),
+        Neighbour::Station(r) => Reacted {
+            station: with_neighbour(side, Neighbour::None, p),
+            sending: Sending::To(r, introduction(p.number)),
+        },
+    }
+}
+
+// A leaving station does not obey remove-left.
+fn obeys(side: Side, p: Station) -> bool
+    ensures { λ r. ⌜ r ≡ act.obeys side p ⌝ }
+{
+    match side {
+        Side::Left => !p.leaving,
+        Side::Right => true,
+    }
+}
+
+fn removed(p: Station, side: Side) -> Reacted
+    ensures { λ r. ⌜ reaction r ≡ act.removed p side ⌝ }
+{
+    if obeys(side, p) {
+        return drop_neighbour(side, p, neighbour(side, p));
+    }
+    unchanged(p)
+}
+
+fn received(p: Station, c: Content) -> Reacted
+    ensures { λ r. ⌜ reaction r ≡ act.received p c ⌝ }
+{
+    match c {
+        Content::Introduction(q) => introduced(p, q),
+        Content::RemoveLeft => removed(p, Side::Left),
+        Content::RemoveRight => removed(p, Side::Right),
+    }
+}
+
+fn nothing() -> Sendings
+    ensures { λ r. ⌜ (r .first ≡ Sending.Nothing) × (r .second ≡ Sending.Nothing) ⌝ }
+{
+    Sendings {
+        first: Sending::Nothing,
+        second: Sending::Nothing,
+    }
+}
+
+// With both neighbours, left is introduced to right and right to left.
+fn introduce_both(left: Neighbour, right: Neighbour) -> Sendings
+    ensures { λ r. ⌜ bothSent r ≡ act.introduceBoth left right ⌝ }
+{
+    match left {
+        Neighbour::None => nothing(),
+        Neighbour::Station(l) => match right {
+            Neighbour::None => nothing(),
+            Neighbour::Station(r) => Sendings {
+                first: Sending::To(l, introduction(r)),
+                second: Sending::To(r, introduction(l)),
+            },
+        },
+    }
+}
+
+// A refused step: the station and the bag as they were, nothing sent.
+fn refuse(refusal: Refusal, s: Station, bag: Bag) -> Decision
+    ensures { λ r. ⌜ (r .verdict ≡ Verdict.Refused refusal) × (r .bag ≡ bag) × (r .gone ≡ false) ⌝ }
+{
+    Decision {
+        verdict: Verdict::Refused(refusal),
+        gone: false,
+        station: s,
+        bag,
+        sendings: nothing(),
+    }
+}
+
+fn deliver(s: Station, bag: Bag, m: Message) -> Decision
+    ensures { λ r. ⌜ ((alone : Bool) → Decides alone s bag (Action.Deliver m) r) ⌝ }
+{
+    let taken = bag.take(m);
+    if taken.found {
+        let content = m.content;
+        let after = received(s, content);
+        let rest = taken.bag;
+        let station = after.station;
+        let sending = after.sending;
+        let sendings = Sendings {
+            first: sending,
+            second: Sending::Nothing,
+        };
+        return Decision {
+            verdict: Verdict::Done,
+            gone: false,
+            station,
+            bag: rest,
+            sendings,
+        };
+    }
+    refuse(Refusal::NotInBag, s, bag)
+}
+
+fn exit(alone: bool, s: Station, bag: Bag) -> Decision
+    ensures { λ r. ⌜ Decides alone s bag Action.Exit r ⌝ }
+{
+    if !s.leaving {
+        return refuse(Refusal::Staying, s, bag);
+    }
+    if !alone {
+        return refuse(Refusal::Held, s, bag);
+    }
+    let left = s.left;
+    let right = s.right;
+    let sendings = introduce_both(left, right);
+    Decision {
+        verdict: Verdict::Done,
+        gone: true,
+        station: s,
+        bag,
+        sendings,
+    }
+}
+
+// A station's part in a step; alone says whether NIDEC holds for it, and is looked at by an exit only.
+pub fn decide(alone: bool, s: Station, bag: Bag, action: Action) -> Decision
+    ensures { λ r. ⌜ Decides alone s bag action r ⌝ }
+{
+    match action {
+        Action::Timeout => {
+            let sendings = timeout(s);
+            Decision {
+                verdict: Verdict::Done,
+                gone: false,
+                station: s,
+                bag,
+                sendings,
+            }
+        }
+        Action::Deliver(m) => deliver(s, bag, m),
+        Action::Exit => exit(alone, s, bag),
+    }
+}
