@@ -47,7 +47,7 @@ line-order t =
     let r = range 0 (length t / 512) in
     ap (sort lower) (ap (map withBagInOrder) (map-map siteOf (blockAt t) r) ∙ map-map withBagInOrder (λ (k : ℕ). siteOf (blockAt t k)) r) ∙ sym (sort-map (siteAt t) lower r)
 
-map-at : {A B : Type 0} (g : A → B) (l : List A) (i : ℕ) (c : A) (d : B) → i < length l → getD (map g l) i d ≡ g (getD l i c)
+pub map-at : {A B : Type 0} (g : A → B) (l : List A) (i : ℕ) (c : A) (d : B) → i < length l → getD (map g l) i d ≡ g (getD l i c)
 map-at g [] i c d h = absurd (not-suc-le-zero h)
 map-at g (x ∷ l) zero c d h = refl
 map-at g (x ∷ l) (suc i) c d h = map-at g l i c d (le-of-suc-le-suc h)

@@ -17,7 +17,7 @@ use Rattle.line.proofs.Chains.{forward, carry}
 use Rattle.line.proofs.Whole.{Sound, Result, step-result}
 
 -- what a run gives, by its first step
-abbrev next : Line → List Reading → Answer Line → Run
+abbrev pub next : Line → List Reading → Answer Line → Run
 next line l (refused r) = record { ending = Stopped r; steps = 0; line = line }
 next line l (done after) = record { ending = (run after l) .ending; steps = suc ((run after l) .steps); line = (run after l) .line }
 

@@ -3,10 +3,9 @@ use mathlib.Core.Path.{_≡_, refl, sym, ap, ap₂, _∙_}
 use mathlib.Core.Bool.{Bool, true, false, cond}
 use mathlib.Core.List.{List, [], _++_, append-nil}
 use mathlib.Core.Option.{none, some}
-use Prim.Native.Nat.{ℕ, _≤_}
+use Prim.Native.Nat.{ℕ}
 use native.Mathlib.Omega.{arith}
 use borrow.Author.Tests.{eq-eqb, ne-eqb}
-use lib.ListN.{length}
 use Rattle.line.specs.declared.Neighbour.{Neighbour}
 use Rattle.line.specs.declared.Neighbour.the-variants.{None, Station}
 use Rattle.line.specs.declared.Message.{Message}
@@ -18,7 +17,7 @@ use Rattle.line.specs.declared.Action.the-variants.{Timeout, Deliver, Exit}
 use Rattle.line.specs.declared.Refusal.{Refusal}
 use Rattle.line.specs.declared.Refusal.the-variants.{NotInBag, Staying, Held}
 use Rattle.line.specs.Answer.{refused, done, require}
-use Rattle.line.specs.Message.{introduction, removal, holds, remove, capacity}
+use Rattle.line.specs.Message.{introduction, removal, holds, remove}
 use Rattle.line.specs.Site.{opposite, beyond, sideOf, neighbour, withNeighbour}
 use Rattle.line.specs.Act.{Send, sendTo, notice, timeout, Reaction, unchanged, meet, introduced, dropNeighbour, obeys, removed, received, introduceBoth, kept, act}
 use Rattle.bag.specs.declared.Bag.{Bag}
@@ -115,7 +114,7 @@ stays e h = absurd (let z : _≡_ {A = ℕ} 0 1 = cc in omega arith)
 module _ (alone : Bool) (s : declared.Station) (b : Bag) (d : Decision) where
   -- a refusal keeps the bag
   refuses : (r : Refusal) {a : Action} → d .verdict ≡ Refused r → d .bag ≡ b → d .gone ≡ false → act alone (record { station = s; bag = held b }) a ≡ refused r → Decides alone s b a d
-  refuses r e f k g = record { says = ap (λ v. decided v (effect d)) e ∙ sym g; bounded = λ h. rw (ap (λ (x : Bag). x .count) f) h; itself = stays k }
+  refuses r e f k g = record { says = ap (λ v. decided v (effect d)) e ∙ sym g; counted = λ h. rw f h; itself = stays k }
 
   pub not-in-bag : (m : Message) → holds m (held b) ≡ false → d .verdict ≡ Refused NotInBag → d .bag ≡ b → d .gone ≡ false → Decides alone s b (Deliver m) d
   unfolding act require
@@ -138,7 +137,7 @@ module _ (alone : Bool) (s : declared.Station) (b : Bag) where
   exits p h k e = record {
     says = ap (λ (l : List Send). done (record { after = none; sends = l })) e
         ∙ sym (ap₂ (λ (t u : Bool). require t Staying (require u Held (done (record { after = none; sends = introduceBoth (s .left) (s .right) })))) h k);
-    bounded = λ x. x;
+    counted = λ x. x;
     itself = λ z. refl;
   }
 
@@ -146,17 +145,17 @@ module _ (alone : Bool) (s : declared.Station) (b : Bag) where
   unfolding act
   times-out p e = record {
     says = ap (λ (l : List Send). done (record { after = some (record { station = s; bag = held b }); sends = l })) e;
-    bounded = λ x. x;
+    counted = λ x. x;
     itself = λ z. refl;
   }
 
-  pub delivers : (m : Message) (t : Taken) (r : Reacted) → Took b m t → t .found ≡ true → reaction r ≡ received s (m .content) → length (held (t .bag)) ≤ capacity
+  pub delivers : (m : Message) (t : Taken) (r : Reacted) → Took b m t → t .found ≡ true → reaction r ≡ received s (m .content)
       → Decides alone s b (Deliver m) (record { verdict = Done; gone = false; station = r .station; bag = t .bag; sendings = record { first = r .sending; second = Nothing } })
   unfolding act require
-  delivers m t r k f e z = record {
+  delivers m t r k f e = record {
     says = ap₂ (λ (u : Reaction) (b : List Message). done (record { after = some (record { station = u .station; bag = b }); sends = u .sends })) (sends-one ∙ e) (k .held-is)
         ∙ sym (ap (λ (h : Bool). require h NotInBag (done (kept (remove m (held b)) (received s (m .content))))) (sym (k .found-is) ∙ f));
-    bounded = λ x. rw (k .counted) z;
+    counted = λ x. k .counted;
     itself = stays refl;
   }
     where

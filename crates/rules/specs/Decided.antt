@@ -1,13 +1,12 @@
 -- What the code's answers say in the terms of the step rules (document 01, "What a step does at station p").
-use Prim.Native.Nat.{_≤_}
 use mathlib.Core.Path.{_≡_}
 use mathlib.Core.Bool.{Bool, true, cond}
 use mathlib.Core.List.{List, [], _++_}
 use mathlib.Core.Option.{none, some}
+use lib.ListN.{length}
 use Rattle.line.specs.declared.Station as declared
 use Rattle.line.specs.declared.Action.{Action}
 use Rattle.line.specs.Answer.{Answer, refused, done}
-use Rattle.line.specs.Message.{capacity}
 use Rattle.line.specs.Act.{Send, send, Reaction, Effect, act}
 use Rattle.bag.specs.declared.Bag.{Bag}
 use Rattle.bag.specs.Held.{held}
@@ -38,8 +37,9 @@ abbrev pub decided : Verdict → Effect → Answer Effect
 decided Done e = done e
 decided (Refused r) e = refused r
 
--- d is the decision of station s with this bag; a bag within its bound stays so, and a station that goes is the one that it was
+-- d is the decision of station s with this bag; a count that is the number of messages held stays so, and a station that goes is the one
+-- that it was
 pub record Decides (alone : Bool) (s : declared.Station) (b : Bag) (a : Action) (d : Decision) : Type 0 where
   pub says : decided (d .verdict) (effect d) ≡ act alone (record { station = s; bag = held b }) a
-  pub bounded : b .count ≤ capacity → d .bag .count ≤ capacity
+  pub counted : b .count ≡ length (held b) → d .bag .count ≡ length (held (d .bag))
   pub itself : d .gone ≡ true → d .station ≡ s

@@ -1,5 +1,4 @@
 -- The message is in the bag, or not.
-use Rattle.bag.proofs.Laws.{held-room, length-mapped}
 use Rattle.rules.proofs.Ways.{delivers, not-in-bag}
 use mathlib.Core.Path.{sym, _∙_}
 use borrow.Author.Needs.{needs}
@@ -13,7 +12,7 @@ received-requires : tie.Need-received-requires
 received-requires c κs = search needs
 
 returns : tie.Need-returns
-returns c = λ alone. delivers alone _ _ _ _ (c .before .before .received .result) (c .before .before .before .before .take .ensures) (c .before .before .before .if1 .taken) (c .before .before .received .ensures) (held-room (c .before .before .before .before .take .result .bag) (search (needs, length-mapped)))
+returns c = λ alone. delivers alone _ _ _ _ (c .before .before .received .result) (c .before .before .before .before .take .ensures) (c .before .before .before .if1 .taken) (c .before .before .received .ensures)
 
 refuse-requires : tie.Need-refuse-requires
 refuse-requires c κs = search needs

@@ -1,0 +1,51 @@
+-- What is proved of runs over bytes (the proofs are in proofs/, under the same names with hyphens). The contract of `run` says that the
+-- code's answer and room are `outcome`; these claims are about that very definition.
+use Prim.Native.Nat.{ℕ}
+use mathlib.Core.Path.{_≡_}
+use mathlib.Core.Logic.{_↔_}
+use mathlib.Core.List.{List}
+use mathlib.Core.List.{List·Memᴰ as Member}
+use lib.ListN.{length}
+use Rattle.line.specs.Site.{Site, number, Present}
+use Rattle.line.specs.Links.{Joined}
+use Rattle.line.specs.Alike.{Alike}
+use Rattle.line.specs.Nidec.{Nidec}
+use Rattle.line.specs.InLine.{InLine}
+use Rattle.table.specs.Blocks.{sites}
+use Rattle.table.specs.Fault.{faultOf}
+use Rattle.engine.specs.declared.Told.the-variants.{Yes}
+use Rattle.engine.specs.Ran.{faultBefore, Outcome, outcome, tableIn}
+use Rattle.engine.specs.Told.{mayLeave, isInLine}
+
+-- the same answer, counts and written bytes
+pub record SameOutcome (x y : Outcome) : Type 0 where
+  pub answer : x .answer ≡ y .answer
+  pub done : x .done ≡ y .done
+  pub stations : x .stations ≡ y .stations
+  pub written : tableIn x ≡ tableIn y
+
+-- 1. Two receivers agree: accepted tables that are alike, whatever the order of their blocks and messages, give for every step list and
+-- equal room lengths the same answer, counts and written bytes.
+abbrev pub ReceiversAgree : Type 0
+ReceiversAgree =
+    (t u steps room room′ : List ℕ) → faultOf t ≡ 0 → faultOf u ≡ 0 → Alike (sites t) (sites u) → length room ≡ length room′
+    → SameOutcome (outcome t steps room) (outcome u steps room′)
+
+-- 2. The line is never cut: of a run that writes a table, also one that stopped at a refused step, two stations with blocks in the table
+-- written are joined in it exactly when they were joined in the table read.
+abbrev pub JoinedKept : Type 0
+JoinedKept =
+    (t steps room : List ℕ) → faultBefore t steps room ≡ 0
+    → (a b : ℕ) → Present (sites (tableIn (outcome t steps room))) a → Present (sites (tableIn (outcome t steps room))) b
+    → Joined (sites t) a b ↔ Joined (sites (tableIn (outcome t steps room))) a b
+
+-- 3. What a run writes is accepted when it is read again.
+abbrev pub WrittenIsAccepted : Type 0
+WrittenIsAccepted = (t steps room : List ℕ) → faultBefore t steps room ≡ 0 → faultOf (tableIn (outcome t steps room)) ≡ 0
+
+-- 4. The questions answer yes exactly when the statements of the paper hold of the blocks in stored order.
+abbrev pub MayLeaveMeans : Type 0
+MayLeaveMeans = (t : List ℕ) (s : Site) → faultOf t ≡ 0 → Member s (sites t) → (mayLeave t (number s) ≡ Yes) ↔ Nidec (sites t) s
+
+abbrev pub InLineMeans : Type 0
+InLineMeans = (t : List ℕ) → faultOf t ≡ 0 → (isInLine t ≡ Yes) ↔ InLine (sites t)

@@ -1,0 +1,68 @@
+-- One law for each way through the code of what is sent.
+use Prim.Native.Nat.{ℕ, _≤_, _<_, _+_}
+use mathlib.Core.Path.{_≡_, refl, sym, ap, _∙_}
+use mathlib.Core.Logic.{_≢_}
+use mathlib.Core.Bool.{Bool, true, false, cond, _&&_}
+use mathlib.Core.List.{List}
+use lib.Dec.{eqb, ltb}
+use lib.ListN.{length}
+use native.Mathlib.Omega.{arith}
+use borrow.Author.Tests.{eq-eqb, ne-eqb, eqb-false, lt-ltb, le-ltb, ltb-true}
+use Rattle.line.specs.declared.Message.{Message}
+use Rattle.line.proofs.Lists.{and-both}
+use Rattle.bag.specs.declared.Bag.{Bag}
+use Rattle.bag.specs.Places.{firstAt}
+use Rattle.bag.specs.Changes.{Put}
+use Rattle.rules.specs.declared.Sending.{Sending}
+use Rattle.rules.specs.declared.Sending.the-variants.{Nothing, To}
+use Rattle.rules.specs.declared.Decision.{Decision}
+use Rattle.moves.specs.Sends.{verdictNumber, receiverOf, roomFor, answerOf, Arrives}
+
+-- who receives
+module _ (l : List ℕ) (x : Sending) (i j q : ℕ) (m : Message) where
+  pub receiver-found : x ≡ To q m → j ≡ firstAt (eqb q) l → j < length l → j ≡ receiverOf l x i
+  receiver-found e f h = rw (e, ← f, lt-ltb j (length l) h)
+
+  pub receiver-absent : x ≡ To q m → j ≡ firstAt (eqb q) l → length l ≤ j → i ≡ receiverOf l x i
+  receiver-absent e f h = rw (e, ← f, le-ltb j (length l) h)
+
+-- whether there is room, and what arrives
+pub arrives-itself : (x : Sending) → x ≡ Nothing → (own there : Bag) → Arrives x own there own
+arrives-itself x e own there = rw e (record { held-is = refl; counted = refl })
+
+module _ (x : Sending) (q : ℕ) (m : Message) where
+  pub room-sent : x ≡ To q m → (b : Bag) → ltb (b .count) 32 ≡ roomFor x b
+  room-sent e b = rw e
+
+  pub sent-fits : x ≡ To q m → (b : Bag) → roomFor x b ≡ true → b .count < 32
+  sent-fits e b h = ltb-true (b .count) 32 (room-sent e b ∙ h)
+
+  pub arrives-put : x ≡ To q m → (own there r : Bag) → Put there m r → Arrives x own there r
+  arrives-put e own there r p = rw e (record { held-is = p .held-is; counted = p .counted })
+
+-- the answer
+module _ (d : Decision) (a b : Bag) (n : ℕ) (e : n ≡ verdictNumber (d .verdict)) where
+  pub answer-refused : n ≢ 0 → n ≡ answerOf d a b
+  answer-refused h = rw (← e, ne-eqb n 0 h)
+
+  module _ (z : n ≡ 0) (u v : Bool) (f : u ≡ roomFor (d .sendings .first) a) (g : v ≡ roomFor (d .sendings .second) b) where
+    by-room : (t : Bool) → (u && v) ≡ t → cond t 0 15 ≡ answerOf d a b
+    by-room t h = rw (← e, eq-eqb n 0 z, ← f, ← g, h)
+
+    pub answer-room : (u && v) ≡ true → 0 ≡ answerOf d a b
+    answer-room h = by-room true h
+
+    pub answer-full : (u && v) ≡ false → 15 ≡ answerOf d a b
+    answer-full h = by-room false h
+
+-- an answer of 0 says that both have room
+pub both-fit : (d : Decision) (a b : Bag) → answerOf d a b ≡ 0 → (roomFor (d .sendings .first) a ≡ true) × (roomFor (d .sendings .second) b ≡ true)
+both-fit d a b e = and-both _ _ (go (verdictNumber (d .verdict)) (roomFor (d .sendings .first) a && roomFor (d .sendings .second) b) e)
+  where
+    go : (n : ℕ) (t : Bool) → cond (eqb n 0) (cond t 0 15) n ≡ 0 → t ≡ true
+    go n true h = refl
+    go n false h = absurd (none (eqb n 0) refl h)
+      where
+        none : (s : Bool) → eqb n 0 ≡ s → cond s 15 n ≡ 0 → ⊥
+        none true p h = omega arith
+        none false p h = eqb-false n 0 p h
