@@ -1,39 +1,15 @@
 #!/usr/bin/env python3
 """Writes the tables that the program `checks` reads, and what it must print.
 
-The blocks are laid out here from document 01 ("The block") alone, with no help from the crates, and each case
+The blocks are laid out from document 01 ("The block") alone (layout.py), with no help from the crates, and each case
 names the number that document 01 gives it. Run it in the repository's root; it writes crates/checks/data/cases.bin
 and crates/checks/stdout, which are kept in the repository.
 """
 import struct
 
-INTRODUCTION, REMOVE_LEFT, REMOVE_RIGHT = 1, 2, 3
-
-
-def sealed(body):
-    """510 bytes with their check word: the 256 words add up to 65,535."""
-    total = sum(struct.unpack("<255H", body)) % 65536
-    return body + struct.pack("<H", (65535 - total) % 65536)
-
-
-def block(station, left=0, right=0, leaving=0, bag=(), layout=1, gap=0, count=None, rest=b""):
-    places = b"".join(struct.pack("<HHI", kind, 0, number) for kind, number in bag)
-    head = struct.pack("<HHIIIHH", layout, leaving, station, left, right, len(bag) if count is None else count, gap)
-    body = (head + places).ljust(510 - len(rest), b"\0") + rest
-    return sealed(body)
-
-
-def changed(data, at, value):
-    """One byte of a block changed, and the check word left as it was."""
-    return data[:at] + bytes([value]) + data[at + 1:]
-
-
-def resealed(data, at, value):
-    return sealed(changed(data, at, value)[:510])
-
+from layout import INTRODUCTION, REMOVE_LEFT, REMOVE_RIGHT, block, changed, line64, resealed
 
 good = block(3, right=5), block(5, left=3, right=9, bag=[(INTRODUCTION, 7)]), block(7), block(9, left=5)
-line64 = [block(k, left=k - 1, right=(k + 1) % 65) for k in range(1, 65)]
 full = block(5, bag=[(INTRODUCTION, 5)] * 32)
 spoilt = changed(block(5), 500, 1)          # 3
 field = block(9, layout=2)                  # 4

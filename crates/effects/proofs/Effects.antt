@@ -1,14 +1,14 @@
 -- One step over the arrays: what was read and worked out before the stores, and what the stores make of the line.
-use Prim.Native.Nat.{ℕ, suc, _+_, _-_, _<_}
-use mathlib.Core.Path.{_≡_, refl, sym, ap, ap₂, subst, _∙_}
+use Prim.Native.Nat.{ℕ, _-_, _<_}
+use mathlib.Core.Path.{_≡_, refl, sym, ap, _∙_}
 use mathlib.Core.Logic.{_≢_, _⊎_, inl, inr, ⊎-elim}
 use mathlib.Core.Bool.{Bool, true, false, cond, _&&_}
-use mathlib.Core.List.{List, [], map}
+use mathlib.Core.List.{List, []}
 use native.Mathlib.Omega.{arith}
 use lib.Dec.{eqb}
-use lib.ListN.{length, getD, take, set, length-take}
+use lib.ListN.{length, getD, take, set}
 use lib.Seq.{length-take-le}
-use borrow.Author.Tests.{eq-eqb, ne-eqb}
+use borrow.Author.Tests.{ne-eqb}
 use Rattle.line.specs.declared.Message.{Message}
 use Rattle.line.specs.declared.Station as declared
 use Rattle.line.specs.declared.Step.{Step}
@@ -20,14 +20,13 @@ use Rattle.line.specs.Site.{Site, Line, number, numbers}
 use Rattle.line.specs.Nidec.{nidec}
 use Rattle.line.specs.Step.{step}
 use Rattle.line.proofs.Lists.{insert-length}
-use Rattle.line.proofs.Whole.{Sound, step-result}
+use Rattle.line.proofs.Whole.{step-result}
 use Rattle.bag.specs.declared.Bag.{Bag}
 use Rattle.bag.specs.Held.{held}
 use Rattle.bag.specs.Places.{removeAt, firstAt}
 use Rattle.block.specs.Said.{nobody}
 use Rattle.table.proofs.NumberLaws.{found-there}
 use Rattle.arrays.specs.Arrays.{lineIn}
-use Rattle.arrays.proofs.Lines.{siteIn}
 use Rattle.rules.specs.declared.Sending.{Sending}
 use Rattle.rules.specs.declared.Sending.the-variants.{Nothing, To}
 use Rattle.rules.specs.declared.Verdict.{Verdict}
@@ -39,7 +38,7 @@ use Rattle.moves.specs.Places.{siteAt}
 use Rattle.moves.specs.Sends.{verdictNumber, isExit, receiverOf, roomFor, answerOf, arrived, Aims, Arrives, Works}
 use Rattle.effects.proofs.Posting.{place, withBag, bag-numbers, receiver-within}
 use Rattle.effects.proofs.Working.{Decided, step-refused, step-full, step-stays, step-leaves, stored-numbers}
-use Rattle.effects.proofs.Stores.{size, Tidy, Kept, kept-length, kept-place, kept-number, kept-count, stored-line, tidy-stored, Dropped, dropped-line, tidy-dropped}
+use Rattle.effects.proofs.Stores.{Tidy, Kept, kept-length, kept-place, kept-number, kept-count, stored-line, tidy-stored, Dropped, dropped-line, tidy-dropped}
 
 -- a receiver has a place
 pub receiver-bound : {n : ℕ} {ns : List ℕ} {stations : List declared.Station} {bags : List (List Message)} {counts : List ℕ} (k : Kept n ns stations bags counts)
@@ -47,23 +46,19 @@ pub receiver-bound : {n : ℕ} {ns : List ℕ} {stations : List declared.Station
 receiver-bound {n} {ns} {stations} {bags} {counts} k i h x e =
     rw (e, k .tidy .numbered) (rw (kept-length (k .tidy)) at (receiver-within (lineIn n stations bags counts) x i (rw (kept-length (k .tidy)) h)))
 
--- b is the bag that stands at place i
-pub record BagAt (bags : List (List Message)) (counts : List ℕ) (i : ℕ) (b : Bag) : Type 0 where
-  pub messages : b .messages ≡ getD bags i []
-  pub count : b .count ≡ getD counts i 0
+-- the bag that stands at place i
+abbrev pub bagAt : List (List Message) → List ℕ → ℕ → Bag
+bagAt bags counts i = record { messages = getD bags i []; count = getD counts i 0 }
 
 -- Everything that is read and worked out before the first store.
 pub record Ready (n : ℕ) (ns : List ℕ) (stations : List declared.Station) (bags : List (List Message)) (counts : List ℕ)
-    (x : Step) (i : ℕ) (alone : Bool) (own : Bag) (aimed : Aimed) (p q : Bag) (w : Worked) : Type 0 where
+    (x : Step) (i : ℕ) (alone : Bool) (aimed : Aimed) (w : Worked) : Type 0 where
   pub kept : Kept n ns stations bags counts
   pub within : i < n
   pub found : i ≡ firstAt (eqb (x .station)) (take n ns)
   pub asked : isExit (x .action) ≡ true → alone ≡ nidec (lineIn n stations bags counts) (siteAt stations bags counts i)
-  pub own-at : BagAt bags counts i own
-  pub aims : Aims (take n ns) i alone (getD stations i (nobody .station)) own (x .action) aimed
-  pub first-at : BagAt bags counts (aimed .first) p
-  pub second-at : BagAt bags counts (aimed .second) q
-  pub works : Works (aimed .decision) p q w
+  pub aims : Aims (take n ns) i alone (getD stations i (nobody .station)) (bagAt bags counts i) (x .action) aimed
+  pub works : Works (aimed .decision) (bagAt bags counts (aimed .first)) (bagAt bags counts (aimed .second)) w
 
 -- what arrives is counted
 arrives-counted : (x : Sending) {own there r : Bag} → own .count ≡ length (held own) → there .count ≡ length (held there) → Arrives x own there r → r .count ≡ length (held r)
@@ -92,8 +87,8 @@ answer-cases d a b n e = go (d .verdict) refl e
         never : (r : Refusal) → cond (eqb (refusalNumber r) 0) (cond (roomFor (d .sendings .first) a && roomFor (d .sendings .second) b) 0 15) (refusalNumber r) ≡ refusalNumber r
         never r = rw (ne-eqb (refusalNumber r) 0 (positive r))
 
-module _ {n : ℕ} {ns : List ℕ} {stations : List declared.Station} {bags : List (List Message)} {counts : List ℕ} {x : Step} {i : ℕ} {alone : Bool} {own : Bag} {aimed : Aimed} {p q : Bag} {w : Worked}
-    (k : Ready n ns stations bags counts x i alone own aimed p q w) where
+module _ {n : ℕ} {ns : List ℕ} {stations : List declared.Station} {bags : List (List Message)} {counts : List ℕ} {x : Step} {i : ℕ} {alone : Bool} {aimed : Aimed} {w : Worked}
+    (k : Ready n ns stations bags counts x i alone aimed w) where
   abbrev line : Line
   line = lineIn n stations bags counts
 
@@ -103,12 +98,19 @@ module _ {n : ℕ} {ns : List ℕ} {stations : List declared.Station} {bags : Li
   abbrev d : Decision
   d = aimed .decision
 
-  -- a bag read at a place is the bag of the line there, with its count
-  bag-is : {j : ℕ} {b : Bag} → j < n → BagAt bags counts j b → held b ≡ (place line j) .bag
-  bag-is {j} {b} h e = ap₂ take (e .count) (e .messages) ∙ sym (ap (λ (s : Site). s .bag) (kept-place tidy j h))
+  -- the bags at the receivers' places
+  abbrev p : Bag
+  p = bagAt bags counts (aimed .first)
 
-  bag-counted : {j : ℕ} {b : Bag} → j < n → BagAt bags counts j b → b .count ≡ length (held b)
-  bag-counted {j} {b} h e = e .count ∙ kept-count tidy j h ∙ ap length (sym (bag-is h e))
+  abbrev q : Bag
+  q = bagAt bags counts (aimed .second)
+
+  -- a bag read at a place is the bag of the line there, with its count
+  bag-is : {j : ℕ} → j < n → held (bagAt bags counts j) ≡ (place line j) .bag
+  bag-is {j} h = sym (ap (λ (s : Site). s .bag) (kept-place tidy j h))
+
+  bag-counted : {j : ℕ} → j < n → getD counts j 0 ≡ length (held (bagAt bags counts j))
+  bag-counted {j} h = kept-count tidy j h ∙ ap length (sym (bag-is h))
 
   in-line : i < length line
   in-line = rw (kept-length tidy) (k .within)
@@ -126,21 +128,21 @@ module _ {n : ℕ} {ns : List ℕ} {stations : List declared.Station} {bags : Li
   second-place : receiverOf (numbers line) (d .sendings .second) i ≡ aimed .second
   second-place = sym (k .aims .second ∙ ap (λ (l : List ℕ). receiverOf l (d .sendings .second) i) (tidy .numbered))
 
-  pub decided : Decided line x i alone own d
+  pub decided : Decided line x i alone (bagAt bags counts i) d
   decided = record {
     sound = k .kept .sound;
     within = in-line;
     found = sym (kept-number tidy i (k .within)) ∙ ap (λ (j : ℕ). getD (take n ns) j 0) (k .found) ∙ found-there (take n ns) (x .station) (rw (← (k .found), length-take-le n ns (omega (arith, tidy .few, tidy .numbers-size))) (k .within));
     asked = λ e. k .asked e ∙ ap (nidec line) (sym (kept-place tidy i (k .within)));
-    own = bag-is (k .within) (k .own-at);
+    own = bag-is (k .within);
     decides = rw (kept-place tidy i (k .within)) (k .aims .decides);
   }
 
   first-held : held p ≡ (place line (receiverOf (numbers line) (d .sendings .first) i)) .bag
-  first-held = rw first-place (bag-is first-within (k .first-at))
+  first-held = rw first-place (bag-is first-within)
 
   second-held : held q ≡ (place line (receiverOf (numbers line) (d .sendings .second) i)) .bag
-  second-held = rw second-place (bag-is second-within (k .second-at))
+  second-held = rw second-place (bag-is second-within)
 
   -- a refused step: 12 to 15
   pub refuses : w .answer ≢ 0 → (r : Refusal) × (step line x ≡ refused r) × (refusalNumber r ≡ w .answer)
@@ -153,7 +155,7 @@ module _ {n : ℕ} {ns : List ℕ} {stations : List declared.Station} {bags : Li
           → (r : Refusal) × (step line x ≡ refused r) × (refusalNumber r ≡ w .answer)
       full go true e f = absurd (h f)
       full go false e f =
-          (Full, step-full decided go p q first-held second-held (bag-counted first-within (k .first-at)) (bag-counted second-within (k .second-at)) e, sym f)
+          (Full, step-full decided go p q first-held second-held (bag-counted first-within) (bag-counted second-within) e, sym f)
 
   -- a step that is done
   module _ (zero-is : w .answer ≡ 0) where
@@ -177,7 +179,7 @@ module _ {n : ℕ} {ns : List ℕ} {stations : List declared.Station} {bags : Li
     counts₁ = set (set (set counts i (w .own .count)) (aimed .first) (w .first .count)) (aimed .second) (w .second .count)
 
     own-counted : d .bag .count ≡ length (held (d .bag))
-    own-counted = k .aims .decides .counted (bag-counted (k .within) (k .own-at))
+    own-counted = k .aims .decides .counted (bag-counted (k .within))
 
     stores : lineIn n stations₁ bags₁ counts₁
         ≡ withBag (withBag (set line i (record { station = d .station; bag = held (d .bag) })) (receiverOf (numbers line) (d .sendings .first) i) (arrived (d .sendings .first) (held (d .bag)) (held p)))
@@ -196,14 +198,14 @@ module _ {n : ℕ} {ns : List ℕ} {stations : List declared.Station} {bags : Li
     pub tidy-then : Tidy n ns stations₁ bags₁ counts₁
     tidy-then =
         tidy-stored tidy i (aimed .first) (aimed .second) (k .within) first-within second-within (d .station) (w .own .messages) (w .first .messages) (w .second .messages) (w .own .count) (w .first .count) (w .second .count)
-        (rw (k .works .own) own-counted) (arrives-counted (d .sendings .first) own-counted (bag-counted first-within (k .first-at)) (k .works .first zero-is))
-        (arrives-counted (d .sendings .second) own-counted (bag-counted second-within (k .second-at)) (k .works .second zero-is)) same-numbers
+        (rw (k .works .own) own-counted) (arrives-counted (d .sendings .first) own-counted (bag-counted first-within) (k .works .first zero-is))
+        (arrives-counted (d .sendings .second) own-counted (bag-counted second-within) (k .works .second zero-is)) same-numbers
 
     -- the station stays
     module _ (stay : d .gone ≡ false) where
       pub stays-step : step line x ≡ done (lineIn n stations₁ bags₁ counts₁)
       stays-step =
-          step-stays decided (goes .0) p q first-held second-held (bag-counted first-within (k .first-at)) (bag-counted second-within (k .second-at)) (goes .1) stay ∙ ap done (sym stores)
+          step-stays decided (goes .0) p q first-held second-held (bag-counted first-within) (bag-counted second-within) (goes .1) stay ∙ ap done (sym stores)
 
       pub stays-kept : Kept n ns stations₁ bags₁ counts₁
       stays-kept = record { tidy = tidy-then; sound = step-result line x (k .kept .sound) stays-step .sound }
@@ -213,7 +215,7 @@ module _ {n : ℕ} {ns : List ℕ} {stations : List declared.Station} {bags : Li
         (dn : Dropped n i ns ns₂) (ds : Dropped n i stations₁ stations₂) (db : Dropped n i bags₁ bags₂) (dc : Dropped n i counts₁ counts₂) where
       pub leaves-step : step line x ≡ done (lineIn (n - 1) stations₂ bags₂ counts₂)
       leaves-step =
-          step-leaves decided (goes .0) p q first-held second-held (bag-counted first-within (k .first-at)) (bag-counted second-within (k .second-at)) (goes .1) leave
+          step-leaves decided (goes .0) p q first-held second-held (bag-counted first-within) (bag-counted second-within) (goes .1) leave
           ∙ ap done (ap (removeAt i) (sym stores) ∙ sym (dropped-line tidy-then i dn ds db dc))
 
       pub leaves-kept : Kept (n - 1) ns₂ stations₂ bags₂ counts₂

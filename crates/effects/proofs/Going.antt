@@ -1,7 +1,7 @@
 -- The steps of a list one after another: what is done, what is left, and how the run ends.
-use Prim.Native.Nat.{ℕ, zero, suc, _+_, _-_, _*_, _/_, _≤_, _<_}
-use mathlib.Core.Path.{_≡_, refl, sym, ap, _∙_}
-use mathlib.Core.List.{List, [], _∷_, map}
+use Prim.Native.Nat.{ℕ, suc, _+_, _-_, _/_, _≤_, _<_}
+use mathlib.Core.Path.{_≡_, refl, ap, _∙_}
+use mathlib.Core.List.{List, _∷_, map}
 use native.Mathlib.Omega.{arith}
 use native.Mathlib.Numerals.{add-one}
 use lib.Dec.{eqb}
@@ -13,7 +13,6 @@ use Rattle.line.specs.declared.Step.{Step}
 use Rattle.line.specs.declared.Refusal.{Refusal}
 use Rattle.line.specs.declared.Refusal.the-variants.{Absent}
 use Rattle.line.specs.declared.Reading.{Reading}
-use Rattle.line.specs.declared.Ending.the-variants.{Complete, Stopped}
 use Rattle.line.specs.Answer.{Answer, refused, done, refusalNumber, endingNumber, _>>=_}
 use Rattle.line.specs.Site.{Line, Present}
 use Rattle.line.specs.Step.{step}

@@ -1,10 +1,10 @@
 -- The arrays between two steps, and what the stores of a step do to the line that they hold.
 use Prim.Native.Nat.{ℕ, zero, suc, _-_, _≤_, _<_}
 use mathlib.Core.Path.{_≡_, refl, sym, ap, _∙_}
-use mathlib.Core.List.{List, [], _∷_, _++_, map, map-append}
+use mathlib.Core.List.{List, [], _∷_, map}
 use native.Mathlib.Omega.{arith}
-use lib.ListN.{length, getD, take, drop, set, length-set, length-map, List·getD-map}
-use lib.Seq.{take-set-lt, getD-take, set-getD}
+use lib.ListN.{length, getD, take, set, length-set, List·getD-map}
+use lib.Seq.{take-set-lt, getD-take}
 use Rattle.line.specs.declared.Message.{Message}
 use Rattle.line.specs.declared.Station as declared
 use Rattle.line.specs.Site.{Site, Line, number, numbers, Rising}

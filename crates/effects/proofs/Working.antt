@@ -1,12 +1,10 @@
 -- A step worked out: what the decision of the station at place i and the bags at the receivers' places say is what the step does.
 use Prim.Native.Nat.{ℕ, zero, suc, _<_}
-use mathlib.Core.Path.{_≡_, refl, sym, ap, ap₂, subst, _∙_}
+use mathlib.Core.Path.{_≡_, refl, sym, ap, ap₂, _∙_}
 use mathlib.Core.Logic.{_≢_, ⊎-elim}
 use mathlib.Core.Bool.{Bool, true, false, cond, _&&_}
-use mathlib.Core.Option.{Option, none, some}
-use mathlib.Core.List.{List, [], _∷_, _++_, map, List·Memᴰ as Member, List·Memᴰ·head as here, List·Memᴰ·tail as there, List·Memᴰ·not-nil, List·Memᴰ·cases-cons}
-use native.Mathlib.Nat.{le-of-suc-le-suc, not-suc-le-zero}
-use native.Mathlib.Omega.{arith}
+use mathlib.Core.Option.{none, some}
+use mathlib.Core.List.{List, [], _∷_, _++_, List·Memᴰ as Member, List·Memᴰ·head as here, List·Memᴰ·tail as there, List·Memᴰ·not-nil, List·Memᴰ·cases-cons}
 use lib.ListN.{length, getD, set, length-set, length-map}
 use lib.Seq.{getD-set-same, getD-set-other, map-set-same}
 use Rattle.line.specs.declared.Message.{Message}
@@ -17,12 +15,12 @@ use Rattle.line.specs.declared.Refusal.{Refusal}
 use Rattle.line.specs.declared.Refusal.the-variants.{Full}
 use Rattle.line.specs.Lists.{all}
 use Rattle.line.specs.Answer.{Answer, refused, done, _>>=_, require}
-use Rattle.line.specs.Site.{Site, Line, number, numbers, Present, Rising}
+use Rattle.line.specs.Site.{Site, Line, number, numbers, Present}
 use Rattle.line.specs.Links.{Linked}
 use Rattle.line.specs.Accepted.{Sided}
 use Rattle.line.specs.Nidec.{nidec}
 use Rattle.line.specs.Act.{Send, Effect, act}
-use Rattle.line.specs.Step.{find, replace, without, sendAll, hasRoom, commit, step}
+use Rattle.line.specs.Step.{replace, without, sendAll, hasRoom, commit, step}
 use Rattle.line.proofs.Answers.{require-true, require-false}
 use Rattle.line.proofs.NidecTest.{nidec-tested}
 use Rattle.line.proofs.Local.{Outcome, act-outcome}

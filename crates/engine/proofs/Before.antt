@@ -1,15 +1,14 @@
 -- What is refused before the first step, one law for each way through the code.
 use Prim.Native.Nat.{ℕ, _/_, _%_, _≤_, _<_}
-use mathlib.Core.Path.{_≡_, refl, sym, ap, _∙_}
+use mathlib.Core.Path.{_≡_}
 use mathlib.Core.Logic.{_≢_}
-use mathlib.Core.Bool.{Bool, true, false, _&&_}
+use mathlib.Core.Bool.{true, false}
 use mathlib.Core.List.{List}
 use native.Mathlib.Omega.{arith}
-use lib.Dec.{eqb, leb}
 use lib.ListN.{length}
 use borrow.Author.Tests.{eq-eqb, ne-eqb, le-leb, lt-leb}
 use Rattle.table.specs.Fault.{faultOf}
-use Rattle.engine.specs.Ran.{listHolds, roomHolds, faultBefore, runOf, Outcome, refusedWith, endedWith, outcome}
+use Rattle.engine.specs.Ran.{listHolds, roomHolds, faultBefore, runOf, refusedWith, endedWith, outcome}
 
 -- the two tests of the list
 module _ (steps : List ℕ) where

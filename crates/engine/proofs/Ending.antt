@@ -1,20 +1,20 @@
 -- What the run's loop leaves, in the terms of the outcome.
 use Prim.Native.Nat.{ℕ, _+_, _*_, _/_, _%_, _≤_}
-use mathlib.Core.Path.{_≡_, refl, sym, ap, _∙_}
+use mathlib.Core.Path.{_≡_, refl}
 use mathlib.Core.Bool.{Bool, true, false, cond, _&&_}
 use mathlib.Core.List.{List, _++_}
 use native.Mathlib.Omega.{arith}
 use denote.Enum.Declared
 use lib.Dec.{eqb, leb}
 use lib.ListN.{length, drop}
-use borrow.Author.Tests.{leb-true, eqb-true}
+use borrow.Author.Tests.{leb-true}
 use Rattle.line.specs.declared.Reading.{Reading}
 use Rattle.line.specs.declared.Reading.the-variants.{Step, Refused}
 use Rattle.line.specs.declared.Action.{Action}
 use Rattle.line.specs.declared.Action.the-variants.{Timeout, Deliver, Exit}
 use Rattle.line.specs.declared.Step as declared
 use Rattle.line.specs.declared.Refusal.the-variants.{Malformed}
-use Rattle.line.specs.Answer.{Answer, refused}
+use Rattle.line.specs.Answer.{Answer}
 use Rattle.line.specs.Accepted.{inRange}
 use Rattle.line.specs.Site.{Line}
 use Rattle.line.specs.Step.{step}
@@ -27,7 +27,7 @@ use Rattle.block.specs.declared.Place.the-variants.{Good, Bad}
 use Rattle.moves.specs.Steps.{placeOf, malformed, stepFor, plain, delivery, stepOf, stepAt}
 use Rattle.table.specs.Blocks.{bytesOf}
 use Rattle.effects.proofs.Going.{Halted}
-use Rattle.engine.specs.Ran.{listHolds, roomHolds, Outcome, endedWith}
+use Rattle.engine.specs.Ran.{listHolds, roomHolds, endedWith}
 
 pub list-few : (steps : List ℕ) → listHolds steps ≡ true → length steps / 12 ≤ 4096
 unfolding listHolds

@@ -1,5 +1,5 @@
--- Why the claims hold, and what the proofs of the run and the questions share.
+-- Why the claims hold, and what the proofs of the run share.
 pub mod WholeLists
-pub mod Questions
 pub mod Before
 pub mod Ending
+pub mod Written

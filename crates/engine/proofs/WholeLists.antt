@@ -30,7 +30,7 @@ use Rattle.engine.specs.Ran.{listHolds, roomHolds, faultBefore, runOf, r
 use Rattle.engine.specs.Claims.{SameOutcome, ReceiversAgree, JoinedKept, WrittenIsAccepted}
 
 -- a run that begins has read an accepted table
-table-fault : (t steps room : List ℕ) → faultBefore t steps room ≡ 0 → faultOf t ≡ 0
+pub table-fault : (t steps room : List ℕ) → faultBefore t steps room ≡ 0 → faultOf t ≡ 0
 unfolding faultBefore
 table-fault t steps room h = go (eqb (faultOf t) 0) refl h
   where
@@ -39,12 +39,12 @@ table-fault t steps room h = go (eqb (faultOf t) 0) refl h
     go false e k = k
 
 -- and ends with the line that its steps leave
-accepted-outcome : (t steps room : List ℕ) → faultBefore t steps room ≡ 0 → outcome t steps room ≡ endedWith (runOf t steps) room
+pub accepted-outcome : (t steps room : List ℕ) → faultBefore t steps room ≡ 0 → outcome t steps room ≡ endedWith (runOf t steps) room
 unfolding outcome
 accepted-outcome t steps room h = rw (eq-eqb (faultBefore t steps room) 0 h) refl
 
 -- that line is accepted and in written order
-after-sound : (t steps : List ℕ) → faultOf t ≡ 0 → Accepted ((runOf t steps) .line) × Written ((runOf t steps) .line)
+pub after-sound : (t steps : List ℕ) → faultOf t ≡ 0 → Accepted ((runOf t steps) .line) × Written ((runOf t steps) .line)
 after-sound t steps h = let a = table-accepted t h in line.run-keeps-accepted (lineOf t) (stepsOf steps) (a .1) (a .2)
 
 -- its bytes begin the room

@@ -4,18 +4,13 @@ use Prim.Native.Nat.{ℕ}
 use mathlib.Core.Path.{_≡_}
 use mathlib.Core.Logic.{_↔_}
 use mathlib.Core.List.{List}
-use mathlib.Core.List.{List·Memᴰ as Member}
 use lib.ListN.{length}
-use Rattle.line.specs.Site.{Site, number, Present}
+use Rattle.line.specs.Site.{Present}
 use Rattle.line.specs.Links.{Joined}
 use Rattle.line.specs.Alike.{Alike}
-use Rattle.line.specs.Nidec.{Nidec}
-use Rattle.line.specs.InLine.{InLine}
 use Rattle.table.specs.Blocks.{sites}
 use Rattle.table.specs.Fault.{faultOf}
-use Rattle.engine.specs.declared.Told.the-variants.{Yes}
 use Rattle.engine.specs.Ran.{faultBefore, Outcome, outcome, tableIn}
-use Rattle.engine.specs.Told.{mayLeave, isInLine}
 
 -- the same answer, counts and written bytes
 pub record SameOutcome (x y : Outcome) : Type 0 where
@@ -42,10 +37,3 @@ JoinedKept =
 -- 3. What a run writes is accepted when it is read again.
 abbrev pub WrittenIsAccepted : Type 0
 WrittenIsAccepted = (t steps room : List ℕ) → faultBefore t steps room ≡ 0 → faultOf (tableIn (outcome t steps room)) ≡ 0
-
--- 4. The questions answer yes exactly when the statements of the paper hold of the blocks in stored order.
-abbrev pub MayLeaveMeans : Type 0
-MayLeaveMeans = (t : List ℕ) (s : Site) → faultOf t ≡ 0 → Member s (sites t) → (mayLeave t (number s) ≡ Yes) ↔ Nidec (sites t) s
-
-abbrev pub InLineMeans : Type 0
-InLineMeans = (t : List ℕ) → faultOf t ≡ 0 → (isInLine t ≡ Yes) ↔ InLine (sites t)

@@ -1,7 +1,7 @@
 -- A run over any bytes (document 01, "The numbers a crew may see" and "The whole run").
 use Prim.Native.Nat.{ℕ, _*_, _/_, _%_}
 use mathlib.Core.Bool.{Bool, cond, _&&_}
-use mathlib.Core.List.{List, [], _∷_, _++_}
+use mathlib.Core.List.{List, _++_}
 use lib.Dec.{eqb, leb}
 use lib.ListN.{length, take, drop}
 use Rattle.line.specs.Answer.{endingNumber}

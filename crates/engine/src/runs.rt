@@ -6,11 +6,8 @@ use arrays::read_counts;
 use arrays::read_numbers;
 use arrays::read_stations;
 use arrays::write_line;
-use line::Action;
-use line::Message;
+use bag::Bag;
 use line::Reading;
-use line::Station;
-use moves::exits::bag_at;
 use moves::exits::drop_bag;
 use moves::exits::drop_count;
 use moves::exits::drop_number;
@@ -24,31 +21,8 @@ use table::check;
 use table::numbers::lookup;
 ghost use mathlib.Core.Path.{_≡_};
 ghost use mathlib.Core.Bool.{true};
-ghost use Prim.Native.Nat.{_<_, _≤_};
-ghost use Rattle.line.specs.Nidec as spec;
-ghost use Rattle.arrays.specs.Arrays.{lineIn};
 ghost use Rattle.table.specs.Fault.{faultOf};
-ghost use Rattle.moves.specs.Places.{siteAt};
-ghost use Rattle.moves.specs.Sends.{isExit};
 ghost use Rattle.engine.specs.Ran.{listHolds, roomHolds, runOf, endedWith, outcome, said};
-
-// Whether NIDEC holds for the station at place i, asked for by an exit only.
-fn is_alone(
-    action: Action,
-    stations: [Station; 64],
-    bags: [[Message; 32]; 64],
-    counts: [usize; 64],
-    n: usize,
-    i: usize,
-) -> bool
-    requires { ⌜ (i < n) × (n ≤ 64) ⌝ }
-    ensures { λ r. ⌜ (isExit action ≡ true → r ≡ spec.nidec (lineIn n stations bags counts) (siteAt stations bags counts i)) ⌝ }
-{
-    if is_exit(action) {
-        return nidec(stations, bags, counts, n, i);
-    }
-    false
-}
 
 // The run over an accepted table. A step is worked out whole before anything is stored; a refused one ends the run.
 fn run_accepted(table: &[u8], steps: &[u8], room: &mut [u8]) -> Ran
@@ -76,14 +50,31 @@ fn run_accepted(table: &[u8], steps: &[u8], room: &mut [u8]) -> Ran
             break;
         }
         let action = step.action;
-        let alone = is_alone(action, stations, bags, counts, n, i);
+        let mut alone = false;
+        if is_exit(action) {
+            alone = nidec(stations, bags, counts, n, i);
+        }
         let station = stations[i];
-        let bag = bag_at(bags, counts, i);
+        let messages = bags[i];
+        let count = counts[i];
+        let bag = Bag { messages, count };
         let aimed = aim(&numbers[..n], i, alone, station, bag, action);
         let decision = aimed.decision;
         let a = aimed.first;
         let b = aimed.second;
-        let worked = work_out(decision, bag_at(bags, counts, a), bag_at(bags, counts, b));
+        let a_messages = bags[a];
+        let a_count = counts[a];
+        let a_bag = Bag {
+            messages: a_messages,
+            count: a_count,
+        };
+        let b_messages = bags[b];
+        let b_count = counts[b];
+        let b_bag = Bag {
+            messages: b_messages,
+            count: b_count,
+        };
+        let worked = work_out(decision, a_bag, b_bag);
         if worked.answer != 0 {
             answer = worked.answer;
             break;

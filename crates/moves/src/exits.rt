@@ -7,27 +7,14 @@ use line::Neighbour;
 use line::Station;
 ghost use mathlib.Core.Path.{_≡_};
 ghost use mathlib.Core.Bool.{_||_, not};
-ghost use mathlib.Core.List.{[]};
 ghost use Prim.Native.Nat.{_-_, _<_, _≤_};
 ghost use lib.Dec.{eqb};
-ghost use lib.ListN.{length, getD, take};
+ghost use lib.ListN.{take};
 ghost use Rattle.line.specs.Nidec as spec;
 ghost use Rattle.bag.specs.Held.{held};
 ghost use Rattle.bag.specs.Places.{removeAt};
 ghost use Rattle.arrays.specs.Arrays.{lineIn};
 ghost use Rattle.moves.specs.Places.{siteAt};
-
-// The bag at a place.
-pub fn bag_at(bags: [[Message; 32]; 64], counts: [usize; 64], i: usize) -> Bag
-    requires { ⌜ i < 64 ⌝ }
-    ensures { λ r. ⌜ (r .messages ≡ getD bags i []) × (r .count ≡ getD counts i 0) ⌝ }
-{
-    let messages = bags[i];
-    Bag {
-        messages,
-        count: counts[i],
-    }
-}
 
 fn is_neighbour(p: u32, n: Neighbour) -> bool
     ensures { λ r. ⌜ r ≡ spec.isNeighbour p n ⌝ }
@@ -83,7 +70,9 @@ pub fn nidec(
     let mut j = 0;
     while j < n {
         let s = stations[j];
-        if spares(p, s, bag_at(bags, counts, j)) {
+        let messages = bags[j];
+        let count = counts[j];
+        if spares(p, s, Bag { messages, count }) {
             j += 1;
         } else {
             return false;

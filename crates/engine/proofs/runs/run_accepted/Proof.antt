@@ -1,21 +1,25 @@
 -- The loop of the run: between two steps the arrays hold what the steps done left (`Going`). A step is worked out (`Ready`) and then
 -- stored, or the loop is left with the number of its refusal.
-use Prim.Native.Nat.{ℕ, _-_, _*_, _/_, _≤_, _<_}
+use Prim.Native.Nat.{_-_, _/_, _≤_, _<_}
 use mathlib.Core.Path.{_≡_, refl, sym, ap, _∙_}
 use mathlib.Core.Logic.{⊎-elim}
+use mathlib.Core.Bool.{true}
 use native.Mathlib.Omega.{arith}
 use borrow.Author.Needs.{needs}
 use denote.Ref.{now}
 use lib.ListN.{length}
 use lib.Seq.{length-take-le}
 use Rattle.line.specs.declared.Refusal.the-variants.{Malformed, Absent}
-use Rattle.line.specs.Site.{Rising}
 use Rattle.line.specs.declared.Reading.the-variants.{Step}
 use Rattle.line.specs.Run.{try}
 use Rattle.moves.specs.Steps.{stepAt}
 use Rattle.bag.proofs.Laws.{length-mapped}
+use Rattle.line.specs.Nidec.{nidec}
+use Rattle.line.proofs.Lists.{clash}
 use Rattle.arrays.specs.Arrays.{lineIn}
-use Rattle.effects.proofs.Stores.{kept-length, kept-rising, Dropped}
+use Rattle.moves.specs.Places.{siteAt}
+use Rattle.moves.specs.Sends.{isExit}
+use Rattle.effects.proofs.Stores.{kept-length, kept-rising}
 use Rattle.effects.proofs.Effects.{receiver-bound, Ready, refuses, stays-step, stays-kept, leaves-step, leaves-kept}
 use Rattle.effects.proofs.Starting.{few-blocks}
 use Rattle.effects.proofs.Going.{Going, Halted, starts-going, at-end, stops, goes, absent-step}
@@ -40,25 +44,30 @@ turn-few e = omega (arith, e .loop-test .taken, list-few (now (e .before .before
 small : (e : tie.Else1 Inv-loop μ-loop) → (e .before .lookup .result < e .before .before .before .before .before .before .before .before .loop .n) × (e .before .before .before .before .before .before .before .before .loop .n ≤ 64)
 small e = (e .if1 .left, few (e .before .before .before .before .before .before .before))
 
-first-bound : (e : tie.After-aim Inv-loop μ-loop) → e .aim .result .first < e .before .before .before .before .before .before .before .before .before .before .before .before .before .loop .n
-first-bound e = receiver-bound (e .before .before .before .before .before .before .before .before .before .before .before .before .before .loop .inv .kept) (e .before .before .before .before .before .before .lookup .result) (e .before .before .before .before .before .if1 .left) (e .aim .result .decision .sendings .first) (e .aim .ensures .first)
+first-bound : (e : tie.After-aim Inv-loop μ-loop) → e .aim .result .first < e .before .before .before .before .before .before .before .before .before .before .before .before .before .before .loop .n
+first-bound e = receiver-bound (e .before .before .before .before .before .before .before .before .before .before .before .before .before .before .loop .inv .kept) (e .before .before .before .before .before .before .before .lookup .result) (e .before .before .before .before .before .before .if1 .left) (e .aim .result .decision .sendings .first) (e .aim .ensures .first)
 
-second-bound : (e : tie.After-aim Inv-loop μ-loop) → e .aim .result .second < e .before .before .before .before .before .before .before .before .before .before .before .before .before .loop .n
-second-bound e = receiver-bound (e .before .before .before .before .before .before .before .before .before .before .before .before .before .loop .inv .kept) (e .before .before .before .before .before .before .lookup .result) (e .before .before .before .before .before .if1 .left) (e .aim .result .decision .sendings .second) (e .aim .ensures .second)
+second-bound : (e : tie.After-aim Inv-loop μ-loop) → e .aim .result .second < e .before .before .before .before .before .before .before .before .before .before .before .before .before .before .loop .n
+second-bound e = receiver-bound (e .before .before .before .before .before .before .before .before .before .before .before .before .before .before .loop .inv .kept) (e .before .before .before .before .before .before .before .lookup .result) (e .before .before .before .before .before .before .if1 .left) (e .aim .result .decision .sendings .second) (e .aim .ensures .second)
+
+-- NIDEC, where it is asked for
+asked : (e : tie.Joined2 Inv-loop μ-loop)
+    → let l = e .before .before .before .before .before .before .before .before .before .before .loop in
+    isExit (e .before .before .before .before .before .before .reading .given .0 .0 .action) ≡ true → e .if2 .alone ≡ nidec (lineIn (l .n) (l .stations) (l .bags) (l .counts)) (siteAt (l .stations) (l .bags) (l .counts) (e .before .before .before .lookup .result))
+asked e x = ⊎-elim (λ w. w .2 ∙ w .1 .ensures) (λ w. clash x (sym (e .before .is-exit .ensures) ∙ w .0 .left)) (e .if2 .came)
 
 -- everything that is read and worked out before the first store
 ready : (e : tie.After-work-out Inv-loop μ-loop)
-    → let l = e .before .before .before .before .before .before .before .before .before .before .before .before .before .before .before .before .before .loop in
-    Ready (l .n) (l .numbers) (l .stations) (l .bags) (l .counts) (e .before .before .before .before .before .before .before .before .before .before .before .before .before .reading .given .0 .0) (e .before .before .before .before .before .before .before .before .before .before .lookup .result) (e .before .before .before .before .before .before .before .before .is-alone .result) (e .before .before .before .before .before .before .bag-at .result) (e .before .before .before .before .aim .result) (e .before .before .bag-at2 .result) (e .before .bag-at3 .result) (e .work-out .result)
+    → let l = e .before .before .before .before .before .before .before .before .before .before .before .before .before .before .before .before .before .before .loop in
+    let i = e .before .before .before .before .before .before .before .before .before .before .before .lookup .result in
+    let r = e .before .before .before .before .aim .result in
+    Ready (l .n) (l .numbers) (l .stations) (l .bags) (l .counts) (e .before .before .before .before .before .before .before .before .before .before .before .before .before .before .reading .given .0 .0) i (e .before .before .before .before .before .before .before .before .if2 .alone) r (e .work-out .result)
 ready e = record {
-  kept = e .before .before .before .before .before .before .before .before .before .before .before .before .before .before .before .before .before .loop .inv .kept;
-  within = e .before .before .before .before .before .before .before .before .before .if1 .left;
-  found = e .before .before .before .before .before .before .before .before .before .before .lookup .ensures;
-  asked = e .before .before .before .before .before .before .before .before .is-alone .ensures;
-  own-at = record { messages = e .before .before .before .before .before .before .bag-at .ensures .0; count = e .before .before .before .before .before .before .bag-at .ensures .1 };
+  kept = e .before .before .before .before .before .before .before .before .before .before .before .before .before .before .before .before .before .before .loop .inv .kept;
+  within = e .before .before .before .before .before .before .before .before .before .before .if1 .left;
+  found = e .before .before .before .before .before .before .before .before .before .before .before .lookup .ensures;
+  asked = asked (e .before .before .before .before .before .before .before .before);
   aims = e .before .before .before .before .aim .ensures;
-  first-at = record { messages = e .before .before .bag-at2 .ensures .0; count = e .before .before .bag-at2 .ensures .1 };
-  second-at = record { messages = e .before .bag-at3 .ensures .0; count = e .before .bag-at3 .ensures .1 };
   works = e .work-out .ensures;
 }
 
@@ -87,9 +96,9 @@ halted e =
     (λ w.
     let r : tie.After-reading Inv-loop μ-loop = record { before = record { before = record { before = record { before = e .before; loop-test = w .0 }; read-step = w .1 }; match = w .2 }; reading = w .3 } in
     let o : tie.After-work-out Inv-loop μ-loop =
-    record { before = record { before = record { before = record { before = record { before = record { before = record { before = record { before = record { before = record { before = record { before = record { before = record { before = r; known-told = w .4 }; numbers = w .5 }; lookup = w .6 }; if1 = w .7 }; is-alone = w .8 }; station = w .9 }; bag-at = w .10 }; numbers2 = w .11 }; aim = w .12 }; decision = w .13 }; bag-at2 = w .14 }; bag-at3 = w .15 }; work-out = w .16 } in
-    let f = refuses (ready o) (w .18 .taken) in
-    rw (w .19) (stops line steps (l .k) total (f .0) (o .work-out .result .answer) (w .0 .taken) (tried line (w .3 .given .0 .0) (is-read r) (f .1)) (f .2) (l .inv .same)))))
+    record { before = record { before = record { before = record { before = record { before = record { before = record { before = record { before = record { before = record { before = record { before = record { before = record { before = record { before = r; known-told = w .4 }; numbers = w .5 }; lookup = w .6 }; if1 = w .7 }; is-exit = w .8 }; if2 = w .9 }; station = w .10 }; messages = w .11 }; numbers2 = w .12 }; aim = w .13 }; decision = w .14 }; a-messages = w .15 }; b-messages = w .16 }; work-out = w .17 } in
+    let f = refuses (ready o) (w .19 .taken) in
+    rw (w .20) (stops line steps (l .k) total (f .0) (o .work-out .result .answer) (w .0 .taken) (tried line (w .3 .given .0 .0) (is-read r) (f .1)) (f .2) (l .inv .same)))))
     (e .loop-test .came)
 
 order-requires : tie.Need-order-requires Inv-loop μ-loop
@@ -128,8 +137,11 @@ slice-aggregate-lookup c = let k = c .before .before .before .before .before .be
 lookup-requires : tie.Need-lookup-requires Inv-loop μ-loop
 lookup-requires c κs = kept-rising (c .before .before .before .before .before .before .loop .inv .kept)
 
-is-alone-requires : tie.Need-is-alone-requires Inv-loop μ-loop
-is-alone-requires c κs = small c
+is-exit-requires : tie.Need-is-exit-requires Inv-loop μ-loop
+is-exit-requires c κs = search needs
+
+nidec-requires : tie.Need-nidec-requires Inv-loop μ-loop
+nidec-requires c κs = small (c .before .before)
 
 mul-station : tie.Need-mul-station Inv-loop μ-loop
 mul-station c = search needs
@@ -137,115 +149,142 @@ mul-station c = search needs
 array-copy-out-station : tie.Need-array-copy-out-station Inv-loop μ-loop
 array-copy-out-station c = search needs
 
-bag-at-requires : tie.Need-bag-at-requires Inv-loop μ-loop
-bag-at-requires c κs = let h = small (c .before .before) in omega (arith, h .0, h .1)
+mul-messages : tie.Need-mul-messages Inv-loop μ-loop
+mul-messages c = search needs
+
+array-copy-out-messages : tie.Need-array-copy-out-messages Inv-loop μ-loop
+array-copy-out-messages c = search needs
+
+mul-count : tie.Need-mul-count Inv-loop μ-loop
+mul-count c = search needs
+
+array-read-count : tie.Need-array-read-count Inv-loop μ-loop
+array-read-count c = search needs
 
 array-share-prefix-numbers-2 : tie.Need-array-share-prefix-numbers-2 Inv-loop μ-loop
 array-share-prefix-numbers-2 c = search needs
 
 slice-aggregate-aim : tie.Need-slice-aggregate-aim Inv-loop μ-loop
-slice-aggregate-aim c = let k = c .before .before .before .before .before .before .before .before .before .before .before .before .loop .inv .kept .tidy in sym (length-take-le _ _ (omega (arith, k .few, k .numbers-size)))
+slice-aggregate-aim c = let k = c .before .before .before .before .before .before .before .before .before .before .before .before .before .loop .inv .kept .tidy in sym (length-take-le _ _ (omega (arith, k .few, k .numbers-size)))
 
 aim-requires : tie.Need-aim-requires Inv-loop μ-loop
-aim-requires c κs = kept-rising (c .before .before .before .before .before .before .before .before .before .before .before .before .loop .inv .kept)
+aim-requires c κs = kept-rising (c .before .before .before .before .before .before .before .before .before .before .before .before .before .loop .inv .kept)
 
-bag-at-requires-2 : tie.Need-bag-at-requires-2 Inv-loop μ-loop
-bag-at-requires-2 c κs = omega (arith, first-bound (c .before), few (c .before .before .before .before .before .before .before .before .before .before .before .before .before))
+mul-a-messages : tie.Need-mul-a-messages Inv-loop μ-loop
+mul-a-messages c = omega (arith, first-bound (c .before), few (c .before .before .before .before .before .before .before .before .before .before .before .before .before .before))
 
-bag-at-requires-3 : tie.Need-bag-at-requires-3 Inv-loop μ-loop
-bag-at-requires-3 c κs = omega (arith, second-bound (c .before .before), few (c .before .before .before .before .before .before .before .before .before .before .before .before .before .before))
+array-copy-out-a-messages : tie.Need-array-copy-out-a-messages Inv-loop μ-loop
+array-copy-out-a-messages c = omega (arith, first-bound (c .before), few (c .before .before .before .before .before .before .before .before .before .before .before .before .before .before))
+
+mul-a-count : tie.Need-mul-a-count Inv-loop μ-loop
+mul-a-count c = omega (arith, first-bound (c .before .before), few (c .before .before .before .before .before .before .before .before .before .before .before .before .before .before .before))
+
+array-read-a-count : tie.Need-array-read-a-count Inv-loop μ-loop
+array-read-a-count c = omega (arith, first-bound (c .before .before), few (c .before .before .before .before .before .before .before .before .before .before .before .before .before .before .before))
+
+mul-b-messages : tie.Need-mul-b-messages Inv-loop μ-loop
+mul-b-messages c = omega (arith, second-bound (c .before .before), few (c .before .before .before .before .before .before .before .before .before .before .before .before .before .before .before))
+
+array-copy-out-b-messages : tie.Need-array-copy-out-b-messages Inv-loop μ-loop
+array-copy-out-b-messages c = omega (arith, second-bound (c .before .before), few (c .before .before .before .before .before .before .before .before .before .before .before .before .before .before .before))
+
+mul-b-count : tie.Need-mul-b-count Inv-loop μ-loop
+mul-b-count c = omega (arith, second-bound (c .before .before .before), few (c .before .before .before .before .before .before .before .before .before .before .before .before .before .before .before .before))
+
+array-read-b-count : tie.Need-array-read-b-count Inv-loop μ-loop
+array-read-b-count c = omega (arith, second-bound (c .before .before .before), few (c .before .before .before .before .before .before .before .before .before .before .before .before .before .before .before .before))
 
 work-out-requires : tie.Need-work-out-requires Inv-loop μ-loop
 work-out-requires c κs = search needs
 
 mul-stations : tie.Need-mul-stations Inv-loop μ-loop
-mul-stations c = let h = small (c .before .before .before .before .before .before .before .before .before .before .before .before .before .before .before .before .before .before) in omega (arith, h .0, h .1)
+mul-stations c = let h = small (c .before .before .before .before .before .before .before .before .before .before .before .before .before .before .before .before .before .before .before) in omega (arith, h .0, h .1)
 
 array-set-from-stations : tie.Need-array-set-from-stations Inv-loop μ-loop
-array-set-from-stations c = let h = small (c .before .before .before .before .before .before .before .before .before .before .before .before .before .before .before .before .before .before) in omega (arith, h .0, h .1)
+array-set-from-stations c = let h = small (c .before .before .before .before .before .before .before .before .before .before .before .before .before .before .before .before .before .before .before) in omega (arith, h .0, h .1)
 
 mul-bags : tie.Need-mul-bags Inv-loop μ-loop
-mul-bags c = let h = small (c .before .before .before .before .before .before .before .before .before .before .before .before .before .before .before .before .before .before) in omega (arith, h .0, h .1)
+mul-bags c = let h = small (c .before .before .before .before .before .before .before .before .before .before .before .before .before .before .before .before .before .before .before) in omega (arith, h .0, h .1)
 
 array-set-from-bags : tie.Need-array-set-from-bags Inv-loop μ-loop
-array-set-from-bags c = let h = small (c .before .before .before .before .before .before .before .before .before .before .before .before .before .before .before .before .before .before) in omega (arith, h .0, h .1)
+array-set-from-bags c = let h = small (c .before .before .before .before .before .before .before .before .before .before .before .before .before .before .before .before .before .before .before) in omega (arith, h .0, h .1)
 
 mul-counts : tie.Need-mul-counts Inv-loop μ-loop
-mul-counts c = let h = small (c .before .before .before .before .before .before .before .before .before .before .before .before .before .before .before .before .before .before) in omega (arith, h .0, h .1)
+mul-counts c = let h = small (c .before .before .before .before .before .before .before .before .before .before .before .before .before .before .before .before .before .before .before) in omega (arith, h .0, h .1)
 
 array-write-counts : tie.Need-array-write-counts Inv-loop μ-loop
-array-write-counts c = let h = small (c .before .before .before .before .before .before .before .before .before .before .before .before .before .before .before .before .before .before) in omega (arith, h .0, h .1)
+array-write-counts c = let h = small (c .before .before .before .before .before .before .before .before .before .before .before .before .before .before .before .before .before .before .before) in omega (arith, h .0, h .1)
 
 mul-bags-2 : tie.Need-mul-bags-2 Inv-loop μ-loop
-mul-bags-2 c = omega (arith, first-bound (c .before .before .before .before .before .before .before .before .before .before .before .before .before), few (c .before .before .before .before .before .before .before .before .before .before .before .before .before .before .before .before .before .before .before .before .before .before .before .before .before))
+mul-bags-2 c = omega (arith, first-bound (c .before .before .before .before .before .before .before .before .before .before .before .before .before), few (c .before .before .before .before .before .before .before .before .before .before .before .before .before .before .before .before .before .before .before .before .before .before .before .before .before .before))
 
 array-set-from-bags-2 : tie.Need-array-set-from-bags-2 Inv-loop μ-loop
-array-set-from-bags-2 c = omega (arith, first-bound (c .before .before .before .before .before .before .before .before .before .before .before .before .before), few (c .before .before .before .before .before .before .before .before .before .before .before .before .before .before .before .before .before .before .before .before .before .before .before .before .before))
+array-set-from-bags-2 c = omega (arith, first-bound (c .before .before .before .before .before .before .before .before .before .before .before .before .before), few (c .before .before .before .before .before .before .before .before .before .before .before .before .before .before .before .before .before .before .before .before .before .before .before .before .before .before))
 
 mul-counts-2 : tie.Need-mul-counts-2 Inv-loop μ-loop
-mul-counts-2 c = omega (arith, first-bound (c .before .before .before .before .before .before .before .before .before .before .before .before .before), few (c .before .before .before .before .before .before .before .before .before .before .before .before .before .before .before .before .before .before .before .before .before .before .before .before .before))
+mul-counts-2 c = omega (arith, first-bound (c .before .before .before .before .before .before .before .before .before .before .before .before .before), few (c .before .before .before .before .before .before .before .before .before .before .before .before .before .before .before .before .before .before .before .before .before .before .before .before .before .before))
 
 array-write-counts-2 : tie.Need-array-write-counts-2 Inv-loop μ-loop
-array-write-counts-2 c = omega (arith, first-bound (c .before .before .before .before .before .before .before .before .before .before .before .before .before), few (c .before .before .before .before .before .before .before .before .before .before .before .before .before .before .before .before .before .before .before .before .before .before .before .before .before))
+array-write-counts-2 c = omega (arith, first-bound (c .before .before .before .before .before .before .before .before .before .before .before .before .before), few (c .before .before .before .before .before .before .before .before .before .before .before .before .before .before .before .before .before .before .before .before .before .before .before .before .before .before))
 
 mul-bags-3 : tie.Need-mul-bags-3 Inv-loop μ-loop
-mul-bags-3 c = omega (arith, second-bound (c .before .before .before .before .before .before .before .before .before .before .before .before .before), few (c .before .before .before .before .before .before .before .before .before .before .before .before .before .before .before .before .before .before .before .before .before .before .before .before .before))
+mul-bags-3 c = omega (arith, second-bound (c .before .before .before .before .before .before .before .before .before .before .before .before .before), few (c .before .before .before .before .before .before .before .before .before .before .before .before .before .before .before .before .before .before .before .before .before .before .before .before .before .before))
 
 array-set-from-bags-3 : tie.Need-array-set-from-bags-3 Inv-loop μ-loop
-array-set-from-bags-3 c = omega (arith, second-bound (c .before .before .before .before .before .before .before .before .before .before .before .before .before), few (c .before .before .before .before .before .before .before .before .before .before .before .before .before .before .before .before .before .before .before .before .before .before .before .before .before))
+array-set-from-bags-3 c = omega (arith, second-bound (c .before .before .before .before .before .before .before .before .before .before .before .before .before), few (c .before .before .before .before .before .before .before .before .before .before .before .before .before .before .before .before .before .before .before .before .before .before .before .before .before .before))
 
 mul-counts-3 : tie.Need-mul-counts-3 Inv-loop μ-loop
-mul-counts-3 c = omega (arith, second-bound (c .before .before .before .before .before .before .before .before .before .before .before .before .before), few (c .before .before .before .before .before .before .before .before .before .before .before .before .before .before .before .before .before .before .before .before .before .before .before .before .before))
+mul-counts-3 c = omega (arith, second-bound (c .before .before .before .before .before .before .before .before .before .before .before .before .before), few (c .before .before .before .before .before .before .before .before .before .before .before .before .before .before .before .before .before .before .before .before .before .before .before .before .before .before))
 
 array-write-counts-3 : tie.Need-array-write-counts-3 Inv-loop μ-loop
-array-write-counts-3 c = omega (arith, second-bound (c .before .before .before .before .before .before .before .before .before .before .before .before .before), few (c .before .before .before .before .before .before .before .before .before .before .before .before .before .before .before .before .before .before .before .before .before .before .before .before .before))
+array-write-counts-3 c = omega (arith, second-bound (c .before .before .before .before .before .before .before .before .before .before .before .before .before), few (c .before .before .before .before .before .before .before .before .before .before .before .before .before .before .before .before .before .before .before .before .before .before .before .before .before .before))
 
 add-k : tie.Need-add-k Inv-loop μ-loop
-add-k c = omega (arith, turn-few (c .before .before .before .before .before .before .before .before .before .before .before .before .before .before .before .before .before .before .before .before .before .before .before .before .before))
+add-k c = omega (arith, turn-few (c .before .before .before .before .before .before .before .before .before .before .before .before .before .before .before .before .before .before .before .before .before .before .before .before .before .before))
 
 drop-number-requires : tie.Need-drop-number-requires Inv-loop μ-loop
-drop-number-requires c κs = small (c .before .before .before .before .before .before .before .before .before .before .before .before .before .before .before .before .before .before .before)
+drop-number-requires c κs = small (c .before .before .before .before .before .before .before .before .before .before .before .before .before .before .before .before .before .before .before .before)
 
 drop-station-requires : tie.Need-drop-station-requires Inv-loop μ-loop
-drop-station-requires c κs = small (c .before .before .before .before .before .before .before .before .before .before .before .before .before .before .before .before .before .before .before .before)
+drop-station-requires c κs = small (c .before .before .before .before .before .before .before .before .before .before .before .before .before .before .before .before .before .before .before .before .before)
 
 drop-bag-requires : tie.Need-drop-bag-requires Inv-loop μ-loop
-drop-bag-requires c κs = small (c .before .before .before .before .before .before .before .before .before .before .before .before .before .before .before .before .before .before .before .before .before)
+drop-bag-requires c κs = small (c .before .before .before .before .before .before .before .before .before .before .before .before .before .before .before .before .before .before .before .before .before .before)
 
 drop-count-requires : tie.Need-drop-count-requires Inv-loop μ-loop
-drop-count-requires c κs = small (c .before .before .before .before .before .before .before .before .before .before .before .before .before .before .before .before .before .before .before .before .before .before)
+drop-count-requires c κs = small (c .before .before .before .before .before .before .before .before .before .before .before .before .before .before .before .before .before .before .before .before .before .before .before)
 
 sub-n : tie.Need-sub-n Inv-loop μ-loop
-sub-n c = omega (arith, small (c .before .before .before .before .before .before .before .before .before .before .before .before .before .before .before .before .before .before .before .before .before .before .before) .0)
+sub-n c = omega (arith, small (c .before .before .before .before .before .before .before .before .before .before .before .before .before .before .before .before .before .before .before .before .before .before .before .before) .0)
 
 loop-less : tie.Need-loop-less Inv-loop μ-loop
-loop-less c = omega (arith, c .before .before .before .before .before .before .before .before .before .before .before .before .before .before .before .before .before .before .before .before .before .before .before .before .before .before .before .before .before .before .loop-test .taken)
+loop-less c = omega (arith, c .before .before .before .before .before .before .before .before .before .before .before .before .before .before .before .before .before .before .before .before .before .before .before .before .before .before .before .before .before .before .before .loop-test .taken)
 
 loop-again : tie.Need-loop-again Inv-loop μ-loop
 loop-again c =
-    let l = c .before .before .before .before .before .before .before .before .before .before .before .before .before .before .before .before .before .before .before .before .before .before .before .before .before .before .before .before .before .before .before .loop in
-    let steps = now (c .before .before .before .before .before .before .before .before .before .before .before .before .before .before .before .before .before .before .before .before .before .before .before .before .before .before .before .before .before .before .before .before .before .before .before .before .before .before .before .before .args .steps) in
+    let l = c .before .before .before .before .before .before .before .before .before .before .before .before .before .before .before .before .before .before .before .before .before .before .before .before .before .before .before .before .before .before .before .before .loop in
+    let steps = now (c .before .before .before .before .before .before .before .before .before .before .before .before .before .before .before .before .before .before .before .before .before .before .before .before .before .before .before .before .before .before .before .before .before .before .before .before .before .before .before .before .before .args .steps) in
     record {
-      within = omega (arith, c .before .before .before .before .before .before .before .before .before .before .before .before .before .before .before .before .before .before .before .before .before .before .before .before .before .before .before .before .before .before .loop-test .taken);
+      within = omega (arith, c .before .before .before .before .before .before .before .before .before .before .before .before .before .before .before .before .before .before .before .before .before .before .before .before .before .before .before .before .before .before .before .loop-test .taken);
       fewer = omega (arith, l .inv .fewer);
       fresh = l .inv .fresh;
-      kept = leaves-kept (ready (c .before .before .before .before .before .before .before .before .before .before .before .before .before .before)) (c .before .before .before .before .before .before .before .before .before .before .before .before .if2 .left) (c .before .before .before .before .if3 .taken) (record { size = search (needs, length-mapped); is = c .before .before .before .drop-number .ensures }) (record { size = search (needs, length-mapped); is = c .before .before .drop-station .ensures }) (record { size = search (needs, length-mapped); is = c .before .drop-bag .ensures }) (record { size = search (needs, length-mapped); is = c .drop-count .ensures });
-      same = goes (lineIn (l .n) (l .stations) (l .bags) (l .counts)) steps (l .k) (length steps / 12) _ (c .before .before .before .before .before .before .before .before .before .before .before .before .before .before .before .before .before .before .before .before .before .before .before .before .before .before .before .before .before .before .loop-test .taken) (tried (lineIn (l .n) (l .stations) (l .bags) (l .counts)) (c .before .before .before .before .before .before .before .before .before .before .before .before .before .before .before .before .before .before .before .before .before .before .before .before .before .before .before .reading .given .0 .0) (is-read (c .before .before .before .before .before .before .before .before .before .before .before .before .before .before .before .before .before .before .before .before .before .before .before .before .before .before .before)) (leaves-step (ready (c .before .before .before .before .before .before .before .before .before .before .before .before .before .before)) (c .before .before .before .before .before .before .before .before .before .before .before .before .if2 .left) (c .before .before .before .before .if3 .taken) (record { size = search (needs, length-mapped); is = c .before .before .before .drop-number .ensures }) (record { size = search (needs, length-mapped); is = c .before .before .drop-station .ensures }) (record { size = search (needs, length-mapped); is = c .before .drop-bag .ensures }) (record { size = search (needs, length-mapped); is = c .drop-count .ensures }))) (l .inv .same);
+      kept = leaves-kept (ready (c .before .before .before .before .before .before .before .before .before .before .before .before .before .before)) (c .before .before .before .before .before .before .before .before .before .before .before .before .if3 .left) (c .before .before .before .before .if4 .taken) (record { size = search (needs, length-mapped); is = c .before .before .before .drop-number .ensures }) (record { size = search (needs, length-mapped); is = c .before .before .drop-station .ensures }) (record { size = search (needs, length-mapped); is = c .before .drop-bag .ensures }) (record { size = search (needs, length-mapped); is = c .drop-count .ensures });
+      same = goes (lineIn (l .n) (l .stations) (l .bags) (l .counts)) steps (l .k) (length steps / 12) _ (c .before .before .before .before .before .before .before .before .before .before .before .before .before .before .before .before .before .before .before .before .before .before .before .before .before .before .before .before .before .before .before .loop-test .taken) (tried (lineIn (l .n) (l .stations) (l .bags) (l .counts)) (c .before .before .before .before .before .before .before .before .before .before .before .before .before .before .before .before .before .before .before .before .before .before .before .before .before .before .before .before .reading .given .0 .0) (is-read (c .before .before .before .before .before .before .before .before .before .before .before .before .before .before .before .before .before .before .before .before .before .before .before .before .before .before .before .before)) (leaves-step (ready (c .before .before .before .before .before .before .before .before .before .before .before .before .before .before)) (c .before .before .before .before .before .before .before .before .before .before .before .before .if3 .left) (c .before .before .before .before .if4 .taken) (record { size = search (needs, length-mapped); is = c .before .before .before .drop-number .ensures }) (record { size = search (needs, length-mapped); is = c .before .before .drop-station .ensures }) (record { size = search (needs, length-mapped); is = c .before .drop-bag .ensures }) (record { size = search (needs, length-mapped); is = c .drop-count .ensures }))) (l .inv .same);
     }
 
 loop-less-2 : tie.Need-loop-less-2 Inv-loop μ-loop
-loop-less-2 c = omega (arith, c .before .before .before .before .before .before .before .before .before .before .before .before .before .before .before .before .before .before .before .before .before .before .before .before .before .before .loop-test .taken)
+loop-less-2 c = omega (arith, c .before .before .before .before .before .before .before .before .before .before .before .before .before .before .before .before .before .before .before .before .before .before .before .before .before .before .before .loop-test .taken)
 
 loop-again-2 : tie.Need-loop-again-2 Inv-loop μ-loop
 loop-again-2 c =
-    let l = c .before .before .before .before .before .before .before .before .before .before .before .before .before .before .before .before .before .before .before .before .before .before .before .before .before .before .before .loop in
-    let steps = now (c .before .before .before .before .before .before .before .before .before .before .before .before .before .before .before .before .before .before .before .before .before .before .before .before .before .before .before .before .before .before .before .before .before .before .before .before .args .steps) in
+    let l = c .before .before .before .before .before .before .before .before .before .before .before .before .before .before .before .before .before .before .before .before .before .before .before .before .before .before .before .before .loop in
+    let steps = now (c .before .before .before .before .before .before .before .before .before .before .before .before .before .before .before .before .before .before .before .before .before .before .before .before .before .before .before .before .before .before .before .before .before .before .before .before .before .args .steps) in
     record {
-      within = omega (arith, c .before .before .before .before .before .before .before .before .before .before .before .before .before .before .before .before .before .before .before .before .before .before .before .before .before .before .loop-test .taken);
+      within = omega (arith, c .before .before .before .before .before .before .before .before .before .before .before .before .before .before .before .before .before .before .before .before .before .before .before .before .before .before .before .loop-test .taken);
       fewer = l .inv .fewer;
       fresh = l .inv .fresh;
-      kept = stays-kept (ready (c .before .before .before .before .before .before .before .before .before .before)) (c .before .before .before .before .before .before .before .before .if2 .left) (c .if3 .left);
-      same = goes (lineIn (l .n) (l .stations) (l .bags) (l .counts)) steps (l .k) (length steps / 12) _ (c .before .before .before .before .before .before .before .before .before .before .before .before .before .before .before .before .before .before .before .before .before .before .before .before .before .before .loop-test .taken) (tried (lineIn (l .n) (l .stations) (l .bags) (l .counts)) (c .before .before .before .before .before .before .before .before .before .before .before .before .before .before .before .before .before .before .before .before .before .before .before .reading .given .0 .0) (is-read (c .before .before .before .before .before .before .before .before .before .before .before .before .before .before .before .before .before .before .before .before .before .before .before)) (stays-step (ready (c .before .before .before .before .before .before .before .before .before .before)) (c .before .before .before .before .before .before .before .before .if2 .left) (c .if3 .left))) (l .inv .same);
+      kept = stays-kept (ready (c .before .before .before .before .before .before .before .before .before .before)) (c .before .before .before .before .before .before .before .before .if3 .left) (c .if4 .left);
+      same = goes (lineIn (l .n) (l .stations) (l .bags) (l .counts)) steps (l .k) (length steps / 12) _ (c .before .before .before .before .before .before .before .before .before .before .before .before .before .before .before .before .before .before .before .before .before .before .before .before .before .before .before .loop-test .taken) (tried (lineIn (l .n) (l .stations) (l .bags) (l .counts)) (c .before .before .before .before .before .before .before .before .before .before .before .before .before .before .before .before .before .before .before .before .before .before .before .before .reading .given .0 .0) (is-read (c .before .before .before .before .before .before .before .before .before .before .before .before .before .before .before .before .before .before .before .before .before .before .before .before)) (stays-step (ready (c .before .before .before .before .before .before .before .before .before .before)) (c .before .before .before .before .before .before .before .before .if3 .left) (c .if4 .left))) (l .inv .same);
     }
 
 write-line-requires : tie.Need-write-line-requires Inv-loop μ-loop
@@ -253,11 +292,11 @@ write-line-requires c κs =
     let i = c .before .before .loop .inv in
     (i .kept .tidy .few, omega (arith, i .fewer, room-long (now (c .before .before .before .before .before .before .before .before .before .before .before .args .table)) (now (c .before .before .before .before .before .before .before .before .before .before .before .args .room)) (c .before .before .before .before .before .before .before .before .before .before .before .pre .2)))
 
-cast-t78 : tie.Need-cast-t78 Inv-loop μ-loop
-cast-t78 c = omega (arith, c .before .before .before .before .before .loop .inv .within, list-few (now (c .before .before .before .before .before .before .before .before .before .before .before .before .before .before .args .steps)) (c .before .before .before .before .before .before .before .before .before .before .before .before .before .before .pre .1))
+cast-t97 : tie.Need-cast-t97 Inv-loop μ-loop
+cast-t97 c = omega (arith, c .before .before .before .before .before .loop .inv .within, list-few (now (c .before .before .before .before .before .before .before .before .before .before .before .before .before .before .args .steps)) (c .before .before .before .before .before .before .before .before .before .before .before .before .before .before .pre .1))
 
-cast-t79 : tie.Need-cast-t79 Inv-loop μ-loop
-cast-t79 c = search needs
+cast-t98 : tie.Need-cast-t98 Inv-loop μ-loop
+cast-t98 c = search needs
 
 same-length : tie.Need-same-length Inv-loop μ-loop
 same-length c = search needs
@@ -286,15 +325,25 @@ run-accepted-spec =
     array-share-prefix-numbers
     slice-aggregate-lookup
     lookup-requires
-    is-alone-requires
+    is-exit-requires
+    nidec-requires
     mul-station
     array-copy-out-station
-    bag-at-requires
+    mul-messages
+    array-copy-out-messages
+    mul-count
+    array-read-count
     array-share-prefix-numbers-2
     slice-aggregate-aim
     aim-requires
-    bag-at-requires-2
-    bag-at-requires-3
+    mul-a-messages
+    array-copy-out-a-messages
+    mul-a-count
+    array-read-a-count
+    mul-b-messages
+    array-copy-out-b-messages
+    mul-b-count
+    array-read-b-count
     work-out-requires
     mul-stations
     array-set-from-stations
@@ -321,7 +370,7 @@ run-accepted-spec =
     loop-less-2
     loop-again-2
     write-line-requires
-    cast-t78
-    cast-t79
+    cast-t97
+    cast-t98
     same-length
     returns)

@@ -1,0 +1,48 @@
+-- The table in the room, whatever the outcome: it lies within the room and has no fault. Where nothing is written it is empty.
+use Prim.Native.Nat.{ℕ, _*_, _≤_}
+use mathlib.Core.Path.{_≡_, refl}
+use mathlib.Core.Bool.{Bool, true, false, cond}
+use mathlib.Core.List.{List, [], List·Memᴰ·not-nil}
+use native.Mathlib.Omega.{arith}
+use lib.Dec.{eqb}
+use lib.ListN.{length, drop, length-append}
+use borrow.Author.Tests.{eqb-true}
+use Rattle.table.specs.Blocks.{bytesOf}
+use Rattle.table.specs.Fault.{faultOf}
+use Rattle.table.proofs.Circle.{written-accepted}
+use Rattle.arrays.proofs.Writing.{written-size}
+use Rattle.engine.specs.Ran.{faultBefore, runOf, Outcome, refusedWith, endedWith, outcome, tableIn}
+use Rattle.engine.proofs.WholeLists.{table-fault, after-sound, accepted-outcome, written-is-accepted}
+
+none-faulty : faultOf [] ≡ 0
+unfolding bytesOf
+none-faulty = written-accepted [] (record {
+  few = omega arith;
+  ranged = λ s m. absurd (List·Memᴰ·not-nil m);
+  small = λ s m. absurd (List·Memᴰ·not-nil m);
+  sided = λ s m. absurd (List·Memᴰ·not-nil m);
+  distinct = tt;
+  known = λ s m. absurd (List·Memᴰ·not-nil m);
+}) (record { rising = tt; bags = λ s m. absurd (List·Memᴰ·not-nil m) }) .0
+
+-- a run that writes, or one that is refused before its first step
+either : (P : Outcome → Type 0) (t steps room : List ℕ) → (faultBefore t steps room ≡ 0 → P (endedWith (runOf t steps) room)) → ((n : ℕ) → P (refusedWith n room)) → P (outcome t steps room)
+unfolding outcome
+either P t steps room f g = go (eqb (faultBefore t steps room) 0) refl
+  where
+    go : (b : Bool) → eqb (faultBefore t steps room) 0 ≡ b → P (cond b (endedWith (runOf t steps) room) (refusedWith (faultBefore t steps room) room))
+    go true e = f (eqb-true (faultBefore t steps room) 0 e)
+    go false e = g (faultBefore t steps room)
+
+pub table-accepted : (t steps room : List ℕ) → faultOf (tableIn (outcome t steps room)) ≡ 0
+table-accepted t steps room =
+    either (λ (o : Outcome). faultOf (tableIn o) ≡ 0) t steps room
+    (λ e. rw (accepted-outcome t steps room e) at (written-is-accepted t steps room e)) (λ n. none-faulty)
+
+pub table-within : (t steps room : List ℕ) → 512 * (outcome t steps room) .stations ≤ length ((outcome t steps room) .room)
+table-within t steps room =
+    either (λ (o : Outcome). 512 * o .stations ≤ length (o .room)) t steps room
+    (λ e.
+    let line = (runOf t steps) .line in
+    omega (arith, length-append (bytesOf line) (drop (512 * length line) room), written-size line (after-sound t steps (table-fault t steps room e) .0 .small)))
+    (λ n. omega arith)

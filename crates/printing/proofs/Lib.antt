@@ -1,0 +1,2 @@
+-- Why the listing is that of the run.
+pub mod Printing

@@ -1,0 +1,3 @@
+-- Why the answers mean what the paper says, and what the proofs of the questions share.
+pub mod Meanings
+pub mod Asking

@@ -1,0 +1,16 @@
+-- What the C interface hands back, in the terms of the run and of the questions (document 01, "The numbers a crew may see").
+use Prim.Native.Nat.{ℕ}
+use mathlib.Core.List.{List}
+use Rattle.engine.specs.Ran.{Outcome}
+use Rattle.questions.specs.declared.Told.{Told}
+use Rattle.questions.specs.Told.{toldNumber, toldYes}
+use Rattle.station_line.specs.declared.StationLineRan.{StationLineRan}
+use Rattle.station_line.specs.declared.StationLineTold.{StationLineTold}
+
+-- the three numbers, with the room that is left
+abbrev pub said : StationLineRan → List ℕ → Outcome
+said r room = record { answer = r .answer; done = r .done; stations = r .stations; room = room }
+
+-- the number and the value of a question's answer
+unfoldable pub toldAs : Told → StationLineTold
+toldAs t = record { answer = toldNumber t; yes = toldYes t }

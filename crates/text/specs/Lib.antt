@@ -1,0 +1,4 @@
+-- What a reader must believe of the printed listing, in reading order.
+pub mod Listing
+pub mod Writing
+pub mod Claims

@@ -1,0 +1,76 @@
+/* The station line: checks a table of ground stations, runs a step list over it, and answers two questions about it.
+ *
+ * Every function takes any bytes and any numbers, ends, and gives the answer fixed for its input; none keeps anything between
+ * calls, allocates, or reads or writes anything but what it is handed. They may be called from several threads at once.
+ *
+ * What the caller owes: each pointer is valid for the length given with it (it may be null where that length is 0), and `room`
+ * does not overlap `table` or `steps`.
+ *
+ * A table is a run of 512-byte blocks, one per station, at most 64 of them. A step list is a run of 12-byte steps, at most 4,096
+ * of them. Integers are little-endian.
+ */
+#ifndef STATION_LINE_H
+#define STATION_LINE_H
+
+#include <stddef.h>
+#include <stdint.h>
+
+#ifdef __cplusplus
+extern "C" {
+#endif
+
+/* The numbers. Where several apply, the smallest is given, whatever the order of the blocks. */
+enum {
+    STATION_LINE_DONE = 0,            /* no refusal */
+    STATION_LINE_TABLE_LENGTH = 1,    /* table length not a multiple of 512 */
+    STATION_LINE_BLOCKS = 2,          /* more than 64 blocks */
+    STATION_LINE_CHECK_WORD = 3,      /* a check fails */
+    STATION_LINE_FIELD = 4,           /* a field outside the layout */
+    STATION_LINE_SIDES = 5,           /* a left not below its own station, or a right not above it */
+    STATION_LINE_TWICE = 6,           /* two blocks with one station number */
+    STATION_LINE_UNKNOWN = 7,         /* a neighbour or introduction names a station without a block */
+    STATION_LINE_LIST_LENGTH = 8,     /* step list not a multiple of 12 bytes, or over 4,096 steps */
+    STATION_LINE_ROOM = 9,            /* room shorter than the table read */
+    STATION_LINE_MALFORMED = 10,      /* malformed step */
+    STATION_LINE_ABSENT = 11,         /* station not present */
+    STATION_LINE_NOT_IN_BAG = 12,     /* message not in that bag */
+    STATION_LINE_STAYING = 13,        /* exit by a staying station */
+    STATION_LINE_HELD = 14,           /* exit, leaving, NIDEC false */
+    STATION_LINE_FULL = 15            /* a bag that must receive holds 32 */
+};
+
+/* What a run returns: its number, the steps done before the first refused one, and the stations now. */
+struct station_line_ran {
+    uint32_t answer, done, stations;
+};
+
+/* What a question returns: its number and, where that is 0, yes (1) or no (0). Beside any other number yes is 0. */
+struct station_line_told {
+    uint32_t answer, yes;
+};
+
+/* Whether a table is accepted: 0, or 1 to 7. */
+uint32_t station_line_check(const uint8_t *table, size_t table_len);
+
+/* Runs the step list over the table and writes the new table to the room.
+ *
+ * 1 to 9: nothing was run; done and stations are 0 and the whole room is as it was.
+ * 0: every step was done. 10 to 15: the run stopped at the first refused step, which changed nothing. In both cases the table
+ * after the steps done stands at the beginning of the room, 512 bytes for each of the stations now, blocks by rising station
+ * number and messages by kind and then by number; the bytes of the room past it are as they were. */
+struct station_line_ran station_line_run(const uint8_t *table, size_t table_len, const uint8_t *steps, size_t steps_len,
+                                         uint8_t *room, size_t room_len);
+
+/* Whether NIDEC holds for a station, leaving mark or not: its bag is empty and no other station has it as a neighbour or as an
+ * introduction in its bag. 1 to 7 of the table, 11 where no block has that number, or 0 with yes or no. */
+struct station_line_told station_line_may_leave(const uint8_t *table, size_t table_len, uint32_t station);
+
+/* Whether the table is in line: each station's left is the next smaller station present, none for the smallest, and likewise its
+ * right. 1 to 7 of the table, or 0 with yes or no. The empty table is in line. */
+struct station_line_told station_line_in_line(const uint8_t *table, size_t table_len);
+
+#ifdef __cplusplus
+}
+#endif
+
+#endif
