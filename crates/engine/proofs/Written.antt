@@ -1,17 +1,18 @@
 -- The table in the room, whatever the outcome: it lies within the room and has no fault. Where nothing is written it is empty.
 use Prim.Native.Nat.{ℕ, _*_, _≤_}
-use mathlib.Core.Path.{_≡_, refl}
+use mathlib.Core.Path.{_≡_, refl, sym, subst}
 use mathlib.Core.Bool.{Bool, true, false, cond}
 use mathlib.Core.List.{List, [], List·Memᴰ·not-nil}
 use native.Mathlib.Omega.{arith}
 use lib.Dec.{eqb}
-use lib.ListN.{length, drop, length-append}
+use lib.ListN.{length, take, drop, length-append}
 use borrow.Author.Tests.{eqb-true}
 use Rattle.table.specs.Blocks.{bytesOf}
 use Rattle.table.specs.Fault.{faultOf}
 use Rattle.table.proofs.Circle.{written-accepted}
 use Rattle.arrays.proofs.Writing.{written-size}
-use Rattle.engine.specs.Ran.{faultBefore, runOf, Outcome, refusedWith, endedWith, outcome, tableIn}
+use Rattle.engine.specs.declared.Ran.{Ran}
+use Rattle.engine.specs.Ran.{faultBefore, runOf, Outcome, refusedWith, endedWith, outcome, said, tableIn}
 use Rattle.engine.proofs.WholeLists.{table-fault, after-sound, accepted-outcome, written-is-accepted}
 
 none-faulty : faultOf [] ≡ 0
@@ -34,15 +35,23 @@ either P t steps room f g = go (eqb (faultBefore t steps room) 0) refl
     go true e = f (eqb-true (faultBefore t steps room) 0 e)
     go false e = g (faultBefore t steps room)
 
-pub table-accepted : (t steps room : List ℕ) → faultOf (tableIn (outcome t steps room)) ≡ 0
-table-accepted t steps room =
+left-accepted : (t steps room : List ℕ) → faultOf (tableIn (outcome t steps room)) ≡ 0
+left-accepted t steps room =
     either (λ (o : Outcome). faultOf (tableIn o) ≡ 0) t steps room
     (λ e. rw (accepted-outcome t steps room e) at (written-is-accepted t steps room e)) (λ n. none-faulty)
 
-pub table-within : (t steps room : List ℕ) → 512 * (outcome t steps room) .stations ≤ length ((outcome t steps room) .room)
-table-within t steps room =
+left-within : (t steps room : List ℕ) → 512 * (outcome t steps room) .stations ≤ length ((outcome t steps room) .room)
+left-within t steps room =
     either (λ (o : Outcome). 512 * o .stations ≤ length (o .room)) t steps room
     (λ e.
     let line = (runOf t steps) .line in
     omega (arith, length-append (bytesOf line) (drop (512 * length line) room), written-size line (after-sound t steps (table-fault t steps room e) .0 .small)))
     (λ n. omega arith)
+
+-- the same of what the code's answer says, with the room that it leaves
+module _ (t steps room : List ℕ) (r : Ran) (after : List ℕ) (e : said r after ≡ outcome t steps room) where
+  pub said-within : 512 * r .stations ≤ length after
+  said-within = subst (λ (o : Outcome). 512 * o .stations ≤ length (o .room)) (sym e) (left-within t steps room)
+
+  pub said-accepted : faultOf (take (512 * r .stations) after) ≡ 0
+  said-accepted = subst (λ (o : Outcome). faultOf (tableIn o) ≡ 0) (sym e) (left-accepted t steps room)

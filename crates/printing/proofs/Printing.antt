@@ -1,23 +1,15 @@
 -- What a run left is what the listing shows.
-use Prim.Native.Nat.{ℕ, _*_, _≤_}
-use mathlib.Core.Path.{_≡_, refl, sym, subst}
+use Prim.Native.Nat.{ℕ, _*_}
+use mathlib.Core.Path.{_≡_, refl, subst}
 use mathlib.Core.List.{List, _++_}
 use lib.ListN.{length, take, drop}
 use Rattle.table.specs.Blocks.{sites}
-use Rattle.table.specs.Fault.{faultOf}
 use Rattle.text.specs.Listing.{listingText}
 use Rattle.engine.specs.declared.Ran.{Ran}
-use Rattle.engine.specs.Ran.{Outcome, outcome, said, tableIn}
-use Rattle.engine.proofs.Written.{table-accepted, table-within}
+use Rattle.engine.specs.Ran.{Outcome, outcome, said}
 use Rattle.printing.specs.Printed.{printed, Lists}
 
 module _ (t steps room : List ℕ) (r : Ran) (left : List ℕ) (e : said r left ≡ outcome t steps room) where
-  pub within : 512 * r .stations ≤ length left
-  within = subst (λ (o : Outcome). 512 * o .stations ≤ length (o .room)) (sym e) (table-within t steps room)
-
-  pub faultless : faultOf (take (512 * r .stations) left) ≡ 0
-  faultless = subst (λ (o : Outcome). faultOf (tableIn o) ≡ 0) (sym e) (table-accepted t steps room)
-
   pub lists : (before after : List ℕ) (n : ℕ)
       → n ≡ length (listingText (r .answer) (r .done) (r .stations) (sites (take (512 * r .stations) left)))
       → after ≡ listingText (r .answer) (r .done) (r .stations) (sites (take (512 * r .stations) left)) ++ drop n before

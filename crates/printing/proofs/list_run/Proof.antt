@@ -3,7 +3,8 @@ use mathlib.Core.Path.{sym}
 use borrow.Author.Needs.{needs}
 use denote.Ref.{now}
 use lib.Seq.{length-take-le}
-use Rattle.printing.proofs.Printing.{within, faultless, lists}
+use Rattle.engine.proofs.Written.{said-within, said-accepted}
+use Rattle.printing.proofs.Printing.{lists}
 use Rattle.printing.proofs.list_run.Statement.{statement}
 use Rattle.printing.proofs.list_run.Tie as tie
 
@@ -17,15 +18,15 @@ mul-end : tie.Need-mul-end
 mul-end c = search needs
 
 slice-reshare-prefix-write-listing : tie.Need-slice-reshare-prefix-write-listing
-slice-reshare-prefix-write-listing c = within _ _ _ (c .before .before .before .before .run .result) _ (c .before .before .before .before .run .ensures)
+slice-reshare-prefix-write-listing c = said-within _ _ _ (c .before .before .before .before .run .result) _ (c .before .before .before .before .run .ensures)
 
 slice-aggregate-write-listing : tie.Need-slice-aggregate-write-listing
-slice-aggregate-write-listing c = sym (length-take-le _ _ (within _ _ _ (c .before .before .before .before .before .run .result) _ (c .before .before .before .before .before .run .ensures)))
+slice-aggregate-write-listing c = sym (length-take-le _ _ (said-within _ _ _ (c .before .before .before .before .before .run .result) _ (c .before .before .before .before .before .run .ensures)))
 
 write-listing-requires : tie.Need-write-listing-requires
 write-listing-requires c κs = (
   c .before .before .before .before .before .before .before .before .before .before .before .pre,
-  λ e. faultless _ _ _ (c .before .before .before .before .before .run .result) _ (c .before .before .before .before .before .run .ensures),
+  λ e. said-accepted _ _ _ (c .before .before .before .before .before .run .result) _ (c .before .before .before .before .before .run .ensures),
 )
 
 same-length : tie.Need-same-length

@@ -1,0 +1,43 @@
+-- What is read lies within the part of the room that was lent, and so within the room.
+use borrow.Author.Needs.{needs}
+use native.Mathlib.Omega.{arith}
+use mathlib.Core.Path.{sym}
+use denote.Ref.{now}
+use lib.ListN.{drop}
+use lib.Seq.{length-take-le}
+use Rattle.situations.proofs.Front.{within-whole, taken-of-whole}
+use Rattle.situations.proofs.read_part.Statement.{statement}
+use Rattle.situations.proofs.read_part.Tie as tie
+
+returns : tie.Need-returns
+returns c = search needs
+
+slice-relend-prefix-read-full : tie.Need-slice-relend-prefix-read-full
+slice-relend-prefix-read-full c = search needs
+
+slice-aggregate-read-full : tie.Need-slice-aggregate-read-full
+slice-aggregate-read-full c = sym (length-take-le _ _ (omega arith))
+
+read-full-requires : tie.Need-read-full-requires
+read-full-requires c κs = search needs
+
+same-length : tie.Need-same-length
+same-length c = search needs
+
+returns-2 : tie.Need-returns-2
+returns-2 c =
+    let a = c .before .before .before .before .before .before .args in
+    let got = c .before .before .read-full in
+    let rest = drop (a .n) (now (a .room)) in
+    (within-whole (got .result) (got .last .1 .0) rest (got .ensures .0), taken-of-whole (got .result) (got .last .1 .0) rest (got .ensures .0))
+
+pub read-part-spec : {M : Type 1} → statement M
+read-part-spec =
+    tie.close
+    (tie.spec
+    returns
+    slice-relend-prefix-read-full
+    slice-aggregate-read-full
+    read-full-requires
+    same-length
+    returns-2)

@@ -1,0 +1,646 @@
+#!/usr/bin/env python3
+"""Writes the runs that the program `situations` makes, and what it must print.
+
+Below is a reading of document 01 in plain Python, made from the document alone with no help from the crates: the check
+(1 to 7), the run (8 to 15), the two questions and the printed listing. The thirteen situations, the printed example and
+most other cases also say by hand what must be printed, and the script stops if the reading gives another. Run it in the
+repository's root; it writes crates/situations/data/cases.bin, crates/situations/stdout and tests/questions.txt, which
+are kept in the repository.
+
+A case in cases.bin is three numbers of 32 bits (length of the table, of the step list, of the room), the table and the
+step list. A line of questions.txt is a case, `leave` and a station or `line`, the number answered and yes (1) or no (0),
+which is 0 at every number but 0; it is asked of the table of the case as it is before the run.
+"""
+import struct
+
+from layout import DELIVER, EXIT, INTRODUCTION, REMOVE_LEFT, REMOVE_RIGHT, TIMEOUT
+from layout import block, changed, line64, resealed, step
+
+# ---- the reading of document 01 ----
+
+
+class Station:
+    def __init__(self, left, right, leaving, bag):
+        self.left, self.right, self.leaving, self.bag = left, right, leaving, bag
+
+
+def is_number(n):
+    return 1 <= n <= 999999
+
+
+def is_message(kind, number):
+    return is_number(number) if kind == INTRODUCTION else kind in (REMOVE_LEFT, REMOVE_RIGHT) and number == 0
+
+
+def blocks_of(table):
+    return [table[a:a + 512] for a in range(0, len(table), 512)]
+
+
+def well_summed(data):
+    return sum(struct.unpack("<256H", data)) % 65536 == 65535
+
+
+def in_layout(data):
+    layout, mark, station, left, right, count, gap = struct.unpack("<HHIIIHH", data[:20])
+    places = [struct.unpack("<HHI", data[a:a + 8]) for a in range(20, 276, 8)]
+    return (layout == 1 and mark in (0, 1) and is_number(station)
+            and (left == 0 or is_number(left)) and (right == 0 or is_number(right)) and count <= 32 and gap == 0
+            and all(is_message(kind, number) and zero == 0 for kind, zero, number in places[:count])
+            and all(place == (0, 0, 0) for place in places[count:]) and not any(data[276:510]))
+
+
+def read_block(data):
+    _, mark, station, left, right, count, _ = struct.unpack("<HHIIIHH", data[:20])
+    bag = [struct.unpack("<HxxI", data[a:a + 8]) for a in range(20, 20 + 8 * count, 8)]
+    return station, Station(left, right, mark == 1, bag)
+
+
+def names(here):
+    """The stations that a station is linked to."""
+    return [q for q in (here.left, here.right) if q] + [q for kind, q in here.bag if kind == INTRODUCTION]
+
+
+def check(table):
+    """The smallest number of 1 to 7 that applies, or 0."""
+    if len(table) % 512 != 0:
+        return 1
+    blocks = blocks_of(table)
+    if len(blocks) > 64:
+        return 2
+    if not all(well_summed(b) for b in blocks):
+        return 3
+    if not all(in_layout(b) for b in blocks):
+        return 4
+    stations = [read_block(b) for b in blocks]
+    if any((s.left and s.left >= p) or (s.right and s.right <= p) for p, s in stations):
+        return 5
+    present = [p for p, _ in stations]
+    if len(set(present)) < len(present):
+        return 6
+    if any(q not in present for _, s in stations for q in names(s)):
+        return 7
+    return 0
+
+
+def read_table(table):
+    return dict(read_block(b) for b in blocks_of(table))
+
+
+def write_table(line):
+    """Blocks by rising station number, messages by kind and then by number."""
+    return b"".join(block(p, s.left, s.right, int(s.leaving), sorted(s.bag)) for p, s in sorted(line.items()))
+
+
+def nidec(line, p):
+    return not line[p].bag and all(p not in names(s) for q, s in line.items() if q != p)
+
+
+def after_introduction(p, here, q):
+    """Left and right after an introduction of q is delivered to p, and what is sent."""
+    left, right = here.left, here.right
+    if q > p:
+        if not right:
+            return left, q, []
+        if q < right:
+            return left, q, [(q, (INTRODUCTION, right))]
+        if q == right:
+            return left, right, []
+        return left, right, [(right, (INTRODUCTION, q))]
+    if q < p:
+        if not left:
+            return q, right, []
+        if q > left:
+            return q, right, [(q, (INTRODUCTION, left))]
+        if q == left:
+            return left, right, []
+        return left, right, [(left, (INTRODUCTION, q))]
+    return left, right, []
+
+
+def after(p, here, action, kind, number):
+    """Left and right after a step at p that may be done, and what is sent: pairs of a receiver and a message."""
+    left, right = here.left, here.right
+    if action == TIMEOUT:
+        to_left = (REMOVE_RIGHT, 0) if here.leaving else (INTRODUCTION, p)
+        to_right = (REMOVE_LEFT, 0) if here.leaving else (INTRODUCTION, p)
+        return left, right, [(q, m) for q, m in ((left, to_left), (right, to_right)) if q]
+    if action == EXIT:
+        return 0, 0, [(right, (INTRODUCTION, left)), (left, (INTRODUCTION, right))] if left and right else []
+    if kind == INTRODUCTION:
+        return after_introduction(p, here, number)
+    if kind == REMOVE_LEFT and left and not here.leaving:
+        return 0, right, [(left, (INTRODUCTION, p))]
+    if kind == REMOVE_RIGHT and right:
+        return left, 0, [(right, (INTRODUCTION, p))]
+    return left, right, []
+
+
+def malformed(action, kind, p, number):
+    if action not in (TIMEOUT, DELIVER, EXIT) or not is_number(p):
+        return True
+    return not is_message(kind, number) if action == DELIVER else (kind, number) != (0, 0)
+
+
+def do_step(line, record):
+    """One step over the line, which is changed where the number returned is 0 and else is left as it was."""
+    action, kind, p, number = struct.unpack("<HHII", record)
+    if malformed(action, kind, p, number):
+        return 10
+    if p not in line:
+        return 11
+    here = line[p]
+    if action == DELIVER and (kind, number) not in here.bag:
+        return 12
+    if action == EXIT and not here.leaving:
+        return 13
+    if action == EXIT and not nidec(line, p):
+        return 14
+    left, right, sent = after(p, here, action, kind, number)
+    receivers = [q for q, _ in sent]
+    assert p not in receivers and len(set(receivers)) == len(receivers)
+    if any(len(line[q].bag) >= 32 for q in receivers):
+        return 15
+    if action == DELIVER:
+        here.bag.remove((kind, number))
+    here.left, here.right = left, right
+    for q, message in sent:
+        line[q].bag.append(message)
+    if action == EXIT:
+        del line[p]
+    return 0
+
+
+def run(table, steps, room):
+    """The answer, the steps done and the table written, None where no table is."""
+    fault = check(table)
+    if fault:
+        return fault, 0, None
+    if len(steps) % 12 != 0 or len(steps) > 4096 * 12:
+        return 8, 0, None
+    if room < len(table):
+        return 9, 0, None
+    line, done = read_table(table), 0
+    for a in range(0, len(steps), 12):
+        answer = do_step(line, steps[a:a + 12])
+        if answer:
+            return answer, done, write_table(line)
+        done += 1
+    return 0, done, write_table(line)
+
+
+def may_leave(table, p):
+    """The leave question: its number, and yes or no."""
+    fault = check(table)
+    if fault:
+        return fault, 0
+    line = read_table(table)
+    return (0, int(nidec(line, p))) if p in line else (11, 0)
+
+
+def in_line(table):
+    """The line question: its number, and yes or no."""
+    fault = check(table)
+    if fault:
+        return fault, 0
+    line = read_table(table)
+    present = [0] + sorted(line) + [0]
+    return 0, int(all((line[p].left, line[p].right) == (below, above)
+                      for below, p, above in zip(present, present[1:], present[2:])))
+
+
+def word(message):
+    kind, number = message
+    return "i%d" % number if kind == INTRODUCTION else "l" if kind == REMOVE_LEFT else "r"
+
+
+def listing(answer, done, table):
+    """The lines of the printed listing; the stations come from the table as it is written."""
+    lines = ["answer %d done %d stations %d" % (answer, done, len(table or b"") // 512)]
+    for data in blocks_of(table or b""):
+        p, s = read_block(data)
+        sides = ["%d" % q if q else "-" for q in (s.left, s.right)]
+        lines.append(" ".join(["%d" % p] + sides + ["leave" if s.leaving else "stay"] + [word(m) for m in s.bag]))
+    return lines
+
+
+# ---- the cases ----
+
+cases = []
+
+
+def case(title, table, steps=b"", room=None, says=None):
+    """Adds a case. The room is longer than the table unless said; `says` is the listing that document 01 asks for."""
+    table, steps = b"".join(table), b"".join(steps)
+    room = len(table) + 600 if room is None else room
+    assert len(table) <= 33280 and len(steps) <= 49164 and room <= 40000, title
+    answer, done, written = run(table, steps, room)
+    assert (written is None) == (1 <= answer <= 9), title
+    assert written is None or (check(written) == 0 and len(written) <= len(table)), title
+    lines = listing(answer, done, written)
+    assert says is None or lines == says.split(" | "), (title, lines)
+    cases.append((title, table, steps, room, answer, lines))
+    return written
+
+
+def i(number):
+    return INTRODUCTION, number
+
+
+L, R = (REMOVE_LEFT, 0), (REMOVE_RIGHT, 0)
+
+
+def timeout(p):
+    return step(TIMEOUT, p)
+
+
+def deliver(p, message):
+    return step(DELIVER, p, *message)
+
+
+def leave(p):
+    return step(EXIT, p)
+
+
+def around(*others, left=3, right=9, leaving=0, bag=()):
+    """Station 5 between 3 and 9, and other blocks."""
+    return [block(3, right=5), block(5, left, right, leaving, bag), block(9, left=5), *others]
+
+
+def unnamed(*others, left=3, right=9, leaving=1, bag=(), bag3=(), bag9=()):
+    """The same, but 3 and 9 have no neighbours: nothing names 5."""
+    return [block(3, bag=bag3), block(5, left, right, leaving, bag), block(9, bag=bag9), *others]
+
+
+full = [i(3)] * 20 + [L] * 7 + [R] * 5
+full_words = " i3" * 20 + " l" * 7 + " r" * 5
+almost = [i(3)] * 20 + [L] * 6 + [R] * 5
+four = [block(3, right=5), block(5, left=3, right=9, bag=[i(7)]), block(7), block(9, left=5)]
+
+# The thirteen situations, and the example of the printed listing.
+case("the printed listing", four, [deliver(5, i(7))], None,
+     "answer 0 done 1 stations 4 | 3 - 5 stay | 5 3 7 stay | 7 - - stay i9 | 9 5 - stay")
+case("situation 1", around(block(7), bag=[i(7)]), [deliver(5, i(7))], None,
+     "answer 0 done 1 stations 4 | 3 - 5 stay | 5 3 7 stay | 7 - - stay i9 | 9 5 - stay")
+case("situation 2, with two copies", around(bag=[i(9), i(9)]), [deliver(5, i(9))], None,
+     "answer 0 done 1 stations 3 | 3 - 5 stay | 5 3 9 stay i9 | 9 5 - stay")
+case("situation 3", around(block(12), bag=[i(12)]), [deliver(5, i(12))], None,
+     "answer 0 done 1 stations 4 | 3 - 5 stay | 5 3 9 stay | 9 5 - stay i12 | 12 - - stay")
+case("situation 4", around(block(12), right=0, bag=[i(12)]), [deliver(5, i(12))], None,
+     "answer 0 done 1 stations 4 | 3 - 5 stay | 5 3 12 stay | 9 5 - stay | 12 - - stay")
+case("situation 5, with two copies", around(bag=[i(5), i(5)]), [deliver(5, i(5))], None,
+     "answer 0 done 1 stations 3 | 3 - 5 stay | 5 3 9 stay i5 | 9 5 - stay")
+case("situation 6", around(bag=[L]), [deliver(5, L)], None,
+     "answer 0 done 1 stations 3 | 3 - 5 stay i5 | 5 - 9 stay | 9 5 - stay")
+case("situation 7, with two copies", around(leaving=1, bag=[L, L]), [deliver(5, L)], None,
+     "answer 0 done 1 stations 3 | 3 - 5 stay | 5 3 9 leave l | 9 5 - stay")
+case("situation 8", around(leaving=1, bag=[R]), [deliver(5, R)], None,
+     "answer 0 done 1 stations 3 | 3 - 5 stay | 5 3 - leave | 9 5 - stay i5")
+case("situation 9", around(leaving=1), [timeout(5)], None,
+     "answer 0 done 1 stations 3 | 3 - 5 stay r | 5 3 9 leave | 9 5 - stay l")
+case("situation 10", unnamed(), [leave(5)], None,
+     "answer 0 done 1 stations 2 | 3 - - stay i9 | 9 - - stay i3")
+case("situation 11", unnamed(bag=[L]), [leave(5)], None,
+     "answer 14 done 0 stations 3 | 3 - - stay | 5 3 9 leave l | 9 - - stay")
+case("situation 12, 32 in the bag of 9", unnamed(leaving=0, bag9=full), [timeout(5)], None,
+     "answer 15 done 0 stations 3 | 3 - - stay | 5 3 9 stay | 9 - - stay" + full_words)
+case("situation 12, 31 in the bag of 9", unnamed(leaving=0, bag9=almost), [timeout(5)], None,
+     "answer 0 done 1 stations 3 | 3 - - stay i5 | 5 3 9 stay | 9 - - stay" + " i3" * 20 + " i5" + " l" * 6 + " r" * 5)
+written = case("situation 13", [block(5, leaving=1)], [leave(5)], None, "answer 0 done 1 stations 0")
+assert written == b""
+
+# The edges that the document names.
+case("64 blocks are read", line64, [], None,
+     " | ".join(["answer 0 done 0 stations 64", "1 - 2 stay"] + ["%d %d %d stay" % (k, k - 1, k + 1) for k in range(2, 64)]
+                + ["64 63 - stay"]))
+case("65 blocks", line64 + [block(65)], [], None, "answer 2 done 0 stations 0")
+case("the empty table with the empty list, no room", [], [], 0, "answer 0 done 0 stations 0")
+case("the empty table with the empty list, some room", [], [], 700, "answer 0 done 0 stations 0")
+case("the check word of the document", [block(5, right=9, bag=[i(7)])[:510] + b"\xe7\xff", block(7), block(9)], [], None,
+     "answer 0 done 0 stations 3 | 5 - 9 stay i7 | 7 - - stay | 9 - - stay")
+case("an all-zero block", [bytes(512)], [], None, "answer 3 done 0 stations 0")
+case("a step list of 13 bytes", four, [deliver(5, i(7)), b"\0"], None, "answer 8 done 0 stations 0")
+pairs = [timeout(5), deliver(9, i(5))] * 2048
+case("4,096 steps", [block(5, right=9), block(9)], pairs, None, "answer 0 done 4096 stations 2 | 5 - 9 stay | 9 5 - stay")
+case("4,097 steps", [block(5, right=9), block(9)], pairs + [timeout(5)], None, "answer 8 done 0 stations 0")
+case("a room of the table's length", four, [deliver(5, i(7))], 2048,
+     "answer 0 done 1 stations 4 | 3 - 5 stay | 5 3 7 stay | 7 - - stay i9 | 9 5 - stay")
+case("a longer room", four, [deliver(5, i(7))], 40000,
+     "answer 0 done 1 stations 4 | 3 - 5 stay | 5 3 7 stay | 7 - - stay i9 | 9 5 - stay")
+case("a room one byte too short", four, [deliver(5, i(7))], 2047, "answer 9 done 0 stations 0")
+case("no room", four, [], 0, "answer 9 done 0 stations 0")
+case("a room too short for the table read, though not for the one left", [block(5, leaving=1)], [leave(5)], 511,
+     "answer 9 done 0 stations 0")
+case("64 blocks in a room of their length", line64, [timeout(64)], 32768)
+case("64 blocks in a room one byte too short", line64, [timeout(64)], 32767, "answer 9 done 0 stations 0")
+case("the largest station", [block(999999, bag=[i(1)]), block(1, right=999999)], [deliver(999999, i(1)), timeout(1)], None,
+     "answer 0 done 2 stations 2 | 1 - 999999 stay | 999999 1 - stay i1")
+case("a bag of 31", [block(3, bag=almost), block(9)], [], None,
+     "answer 0 done 0 stations 2 | 3 - - stay" + " i3" * 20 + " l" * 6 + " r" * 5 + " | 9 - - stay")
+case("a bag of 32", [block(3, bag=full), block(9)], [], None,
+     "answer 0 done 0 stations 2 | 3 - - stay" + full_words + " | 9 - - stay")
+
+# A table that is refused, with a step that could be done.
+spoilt = changed(block(5), 500, 1)
+for title, table, number in [
+        ("511 bytes", [block(5)[:511]], 1),
+        ("one byte", [b"\1"], 1),
+        ("33,279 bytes", [b"".join(line64 + [block(65)])[:33279]], 1),
+        ("513 bytes, with a check that fails", [spoilt, b"\0"], 1),
+        ("65 blocks, all of them zero", [bytes(33280)], 2),
+        ("a byte changed", [spoilt], 3),
+        ("the last of 64 blocks spoilt", line64[:63] + [changed(line64[63], 511, 1)], 3),
+        ("layout 2", [block(5, layout=2)], 4),
+        ("flag bit 1", [block(5, leaving=2)], 4),
+        ("a count of 33", [block(5, bag=[i(5)] * 33)], 4),
+        ("a count of 33 over 32 places", [block(5, bag=[i(5)] * 32, count=33)], 4),
+        ("a count below the places used", [block(5, bag=[i(5)] * 2, count=1)], 4),
+        ("bytes 18-19", [block(5, gap=1)], 4),
+        ("a gap byte of a place", [resealed(block(5, bag=[i(5)]), 22, 1)], 4),
+        ("byte 509", [resealed(block(5), 509, 1)], 4),
+        ("left above", [block(5, left=9), block(9)], 5),
+        ("left is the station itself", [block(5, left=5)], 5),
+        ("right is the station itself", [block(5, right=5)], 5),
+        ("two blocks of one number, apart", [block(5), block(9), block(5, leaving=1)], 6),
+        ("left absent", [block(5, left=3)], 7),
+        ("an introduction of an absent station", [block(5, bag=[i(6)])], 7),
+        ("3 and 4", [spoilt, block(9, layout=2)], 3),
+        ("4 and 3", [block(9, layout=2), spoilt], 3),
+        ("6 and 7", [block(5), block(5), block(7, left=3)], 6),
+        ("7 and 6", [block(7, left=3), block(5), block(5)], 6)]:
+    case(title, table, [timeout(5)], None, "answer %d done 0 stations 0" % number)
+
+# 7 before 8, 8 before 9, 9 before 10, 8 before 10.
+case("7 before 8", [block(5, left=3)], [b"\0"], None, "answer 7 done 0 stations 0")
+case("1 before 9", [block(5)[:511]], [], 0, "answer 1 done 0 stations 0")
+case("8 before 9", [block(5)], [b"\0" * 11], 511, "answer 8 done 0 stations 0")
+case("8 before 10, a list too long", [block(5)], [bytes(4097 * 12)], None, "answer 8 done 0 stations 0")
+case("8 before 10, not a multiple of 12", [block(5)], [bytes(4096 * 12 + 1)], None, "answer 8 done 0 stations 0")
+case("9 before 10", [block(5)], [bytes(12)], 511, "answer 9 done 0 stations 0")
+
+# 10, each way; the station of the step is present unless it can't be.
+for title, record in [
+        ("action 0", step(0, 5)),
+        ("action 4", step(4, 5)),
+        ("action 257", step(257, 5)),
+        ("all zero", bytes(12)),
+        ("all ones", b"\xff" * 12),
+        ("a timeout with a kind", step(TIMEOUT, 5, 1, 5)),
+        ("a timeout with a kind that needs no number", step(TIMEOUT, 5, 2)),
+        ("a timeout with a number", step(TIMEOUT, 5, 0, 5)),
+        ("an exit with a kind", step(EXIT, 5, 3)),
+        ("an exit with a number", step(EXIT, 5, 0, 5)),
+        ("a delivery of kind 0", step(DELIVER, 5, 0, 0)),
+        ("a delivery of kind 0 with a number", step(DELIVER, 5, 0, 5)),
+        ("a delivery of kind 4", step(DELIVER, 5, 4, 0)),
+        ("a delivery of kind 257", step(DELIVER, 5, 257, 5)),
+        ("a delivery of an introduction of 0", step(DELIVER, 5, 1, 0)),
+        ("a delivery of an introduction of 1,000,000", step(DELIVER, 5, 1, 1000000)),
+        ("a delivery of an introduction above three bytes", step(DELIVER, 5, 1, 5 + (1 << 24))),
+        ("a delivery of remove-left with a number", step(DELIVER, 5, 2, 5)),
+        ("a delivery of remove-right with a number", step(DELIVER, 5, 3, 5)),
+        ("station 0", step(TIMEOUT, 0)),
+        ("station 1,000,000", step(TIMEOUT, 1000000)),
+        ("station above three bytes", step(TIMEOUT, 5 + (1 << 24))),
+        ("10 before 11", step(TIMEOUT, 6, 1, 5)),
+        ("10 before 11, at a delivery", step(DELIVER, 6, 2, 5)),
+        ("10 before 13", step(EXIT, 5, 0, 1))]:
+    case(title, [block(5, bag=[i(5), L, R])], [record], None, "answer 10 done 0 stations 1 | 5 - - stay i5 l r")
+
+# 11 to 15, and which goes before which.
+for title, record in [("timeout", timeout(6)), ("delivery", deliver(6, i(5))), ("exit", leave(6)),
+                      ("999,999", timeout(999999))]:
+    case("11, " + title, around(), [record], None, "answer 11 done 0 stations 3 | 3 - 5 stay | 5 3 9 stay | 9 5 - stay")
+case("11, any station over the empty table", [], [timeout(5)], None, "answer 11 done 0 stations 0")
+case("12, another number of the same kind", around(bag=[i(3)]), [deliver(5, i(9))], None,
+     "answer 12 done 0 stations 3 | 3 - 5 stay | 5 3 9 stay i3 | 9 5 - stay")
+case("12, another kind", around(bag=[L]), [deliver(5, R)], None,
+     "answer 12 done 0 stations 3 | 3 - 5 stay | 5 3 9 stay l | 9 5 - stay")
+case("12, a message of another bag", around(block(12, bag=[i(9)])), [deliver(5, i(9))], None,
+     "answer 12 done 0 stations 4 | 3 - 5 stay | 5 3 9 stay | 9 5 - stay | 12 - - stay i9")
+case("12, an absent station introduced", around(), [deliver(5, i(999999))], None,
+     "answer 12 done 0 stations 3 | 3 - 5 stay | 5 3 9 stay | 9 5 - stay")
+case("12 before 15", unnamed(bag9=full, bag3=full), [deliver(5, R)], None,
+     "answer 12 done 0 stations 3 | 3 - - stay%s | 5 3 9 leave | 9 - - stay%s" % (full_words, full_words))
+case("12, the one copy is gone", around(bag=[i(9)]), [deliver(5, i(9))] * 2, None,
+     "answer 12 done 1 stations 3 | 3 - 5 stay | 5 3 9 stay | 9 5 - stay")
+case("13, though NIDEC holds", unnamed(leaving=0), [leave(5)], None,
+     "answer 13 done 0 stations 3 | 3 - - stay | 5 3 9 stay | 9 - - stay")
+case("13 where NIDEC is false too", around(bag=[L]), [leave(5)], None,
+     "answer 13 done 0 stations 3 | 3 - 5 stay | 5 3 9 stay l | 9 5 - stay")
+case("13 before 15", unnamed(leaving=0, bag9=full), [leave(5)], None,
+     "answer 13 done 0 stations 3 | 3 - - stay | 5 3 9 stay | 9 - - stay" + full_words)
+case("14, the right of another", unnamed(block(2, right=5)), [leave(5)], None,
+     "answer 14 done 0 stations 4 | 2 - 5 stay | 3 - - stay | 5 3 9 leave | 9 - - stay")
+case("14, the left of another", unnamed(block(12, left=5)), [leave(5)], None,
+     "answer 14 done 0 stations 4 | 3 - - stay | 5 3 9 leave | 9 - - stay | 12 5 - stay")
+case("14, an introduction in a bag", unnamed(block(12, bag=[i(3), i(5)])), [leave(5)], None,
+     "answer 14 done 0 stations 4 | 3 - - stay | 5 3 9 leave | 9 - - stay | 12 - - stay i3 i5")
+case("14, its own introduction", [block(5, leaving=1, bag=[i(5)])], [leave(5)], None,
+     "answer 14 done 0 stations 1 | 5 - - leave i5")
+case("14 before 15", unnamed(bag=[L], bag9=full), [leave(5)], None,
+     "answer 14 done 0 stations 3 | 3 - - stay | 5 3 9 leave l | 9 - - stay" + full_words)
+case("an exit, messages elsewhere that name others", unnamed(bag3=[i(9), L, R], bag9=[i(3), i(3)]), [leave(5)], None,
+     "answer 0 done 1 stations 2 | 3 - - stay i9 i9 l r | 9 - - stay i3 i3 i3")
+case("15, exit, left full", unnamed(bag3=full), [leave(5)], None,
+     "answer 15 done 0 stations 3 | 3 - - stay%s | 5 3 9 leave | 9 - - stay" % full_words)
+case("15, exit, right full", unnamed(bag9=full), [leave(5)], None,
+     "answer 15 done 0 stations 3 | 3 - - stay | 5 3 9 leave | 9 - - stay" + full_words)
+case("an exit that sends nothing, left full", unnamed(right=0, bag3=full), [leave(5)], None,
+     "answer 0 done 1 stations 2 | 3 - - stay%s | 9 - - stay" % full_words)
+case("an exit that sends nothing, right full", unnamed(left=0, bag9=full), [leave(5)], None,
+     "answer 0 done 1 stations 2 | 3 - - stay | 9 - - stay" + full_words)
+case("15, timeout, left full", unnamed(leaving=0, bag3=full), [timeout(5)], None,
+     "answer 15 done 0 stations 3 | 3 - - stay%s | 5 3 9 stay | 9 - - stay" % full_words)
+case("15, leaving timeout, right full", unnamed(bag9=full), [timeout(5)], None,
+     "answer 15 done 0 stations 3 | 3 - - stay | 5 3 9 leave | 9 - - stay" + full_words)
+case("15, an introduction between", unnamed(block(7, bag=full), leaving=0, bag=[i(7)]), [deliver(5, i(7))], None,
+     "answer 15 done 0 stations 4 | 3 - - stay | 5 3 9 stay i7 | 7 - - stay%s | 9 - - stay" % full_words)
+case("15, an introduction that goes on", unnamed(block(12), leaving=0, bag=[i(12)], bag9=full), [deliver(5, i(12))], None,
+     "answer 15 done 0 stations 4 | 3 - - stay | 5 3 9 stay i12 | 9 - - stay%s | 12 - - stay" % full_words)
+case("15, remove-left", unnamed(leaving=0, bag=[L], bag3=full), [deliver(5, L)], None,
+     "answer 15 done 0 stations 3 | 3 - - stay%s | 5 3 9 stay l | 9 - - stay" % full_words)
+case("15, remove-right", unnamed(bag=[R], bag9=full), [deliver(5, R)], None,
+     "answer 15 done 0 stations 3 | 3 - - stay | 5 3 9 leave r | 9 - - stay" + full_words)
+case("remove-left, leaving, left full: nothing is sent", unnamed(bag=[L], bag3=full), [deliver(5, L)], None,
+     "answer 0 done 1 stations 3 | 3 - - stay%s | 5 3 9 leave | 9 - - stay" % full_words)
+case("a full bag at the station itself", unnamed(leaving=0, bag=full), [deliver(5, L), timeout(5), deliver(5, R)], None,
+     "answer 0 done 3 stations 3 | 3 - - stay i5 | 5 - - stay%s | 9 - - stay i5 i5" % full_words[:-2].replace(" l", "", 1))
+
+# The rest of what a step does.
+case("the mirror image of 1", around(block(4), bag=[i(4)]), [deliver(5, i(4))], None,
+     "answer 0 done 1 stations 4 | 3 - 5 stay | 4 - - stay i3 | 5 4 9 stay | 9 5 - stay")
+case("the mirror image of 2", around(bag=[i(3), i(3)]), [deliver(5, i(3))], None,
+     "answer 0 done 1 stations 3 | 3 - 5 stay | 5 3 9 stay i3 | 9 5 - stay")
+case("the mirror image of 3", around(block(2), bag=[i(2)]), [deliver(5, i(2))], None,
+     "answer 0 done 1 stations 4 | 2 - - stay | 3 - 5 stay i2 | 5 3 9 stay | 9 5 - stay")
+case("the mirror image of 4", around(block(2), left=0, bag=[i(2)]), [deliver(5, i(2))], None,
+     "answer 0 done 1 stations 4 | 2 - - stay | 3 - 5 stay | 5 2 9 stay | 9 5 - stay")
+case("situations 1 and 3, leaving", around(block(7), block(12), leaving=1, bag=[i(12), i(7)]),
+     [deliver(5, i(12)), deliver(5, i(7))], None,
+     "answer 0 done 2 stations 5 | 3 - 5 stay | 5 3 7 leave | 7 - - stay i9 | 9 5 - stay i12 | 12 - - stay")
+case("staying, remove-right", around(bag=[R]), [deliver(5, R)], None,
+     "answer 0 done 1 stations 3 | 3 - 5 stay | 5 3 - stay | 9 5 - stay i5")
+case("no left to remove, no right to remove", [block(5, bag=[L, L, R, R])], [deliver(5, R), deliver(5, L)], None,
+     "answer 0 done 2 stations 1 | 5 - - stay l r")
+case("the named message of several", around(block(7), bag=[i(9), i(7), i(3), R, L]), [deliver(5, i(7))], None,
+     "answer 0 done 1 stations 4 | 3 - 5 stay | 5 3 7 stay i3 i9 l r | 7 - - stay i9 | 9 5 - stay")
+case("staying, timeout", around(), [timeout(5)], None,
+     "answer 0 done 1 stations 3 | 3 - 5 stay i5 | 5 3 9 stay | 9 5 - stay i5")
+case("timeouts at both ends and alone", around(block(12)), [timeout(3), timeout(9), timeout(12)], None,
+     "answer 0 done 3 stations 4 | 3 - 5 stay | 5 3 9 stay i3 i9 | 9 5 - stay | 12 - - stay")
+case("leaving timeouts at both ends and alone", [block(3, right=5, leaving=1), block(5), block(9, left=5, leaving=1),
+                                                 block(12, leaving=1)], [timeout(3), timeout(9), timeout(12)], None,
+     "answer 0 done 3 stations 4 | 3 - 5 leave | 5 - - stay l r | 9 5 - leave | 12 - - leave")
+case("equal messages add up", around(), [timeout(5)] * 3, None,
+     "answer 0 done 3 stations 3 | 3 - 5 stay i5 i5 i5 | 5 3 9 stay | 9 5 - stay i5 i5 i5")
+case("33 timeouts: the last is refused", unnamed(leaving=0), [timeout(5)] * 33, None,
+     "answer 15 done 32 stations 3 | 3 - - stay%s | 5 3 9 stay | 9 - - stay%s" % (" i5" * 32, " i5" * 32))
+
+# Refused in the middle: what was done is kept and written, what follows isn't done.
+for answer, record in [(10, bytes(12)), (11, timeout(4)), (12, deliver(5, i(7))), (13, leave(3)), (14, leave(9))]:
+    case("%d after three steps" % answer, four[:3] + [block(9, left=5, leaving=1)],
+         [deliver(5, i(7)), timeout(3), deliver(7, i(9)), record, timeout(7)], None,
+         "answer %d done 3 stations 4 | 3 - 5 stay | 5 3 7 stay i3 | 7 - 9 stay | 9 5 - leave" % answer)
+case("an exit, then a step of the one gone", unnamed(), [leave(5), deliver(9, i(3)), timeout(5), deliver(3, i(9))], None,
+     "answer 11 done 2 stations 2 | 3 - - stay i9 | 9 3 - stay")
+case("an exit, then both sides meet", unnamed(), [leave(5), deliver(9, i(3)), deliver(3, i(9))], None,
+     "answer 0 done 3 stations 2 | 3 - 9 stay | 9 3 - stay")
+case("three leave one after another", [block(5, leaving=1, right=9), block(7, leaving=1), block(9, leaving=1, left=7)],
+     [leave(5), leave(9), leave(7), timeout(7)], None, "answer 11 done 3 stations 0")
+case("a leaving station takes itself out", around(leaving=1),
+     [timeout(5), deliver(3, R), deliver(9, L), leave(5), deliver(5, i(3)), deliver(5, i(9)), leave(5)], None,
+     "answer 14 done 3 stations 3 | 3 - - stay | 5 3 9 leave i3 i9 | 9 - - stay")
+case("the same, once its bag is empty", around(leaving=1),
+     [timeout(5), deliver(3, R), deliver(9, L), deliver(5, i(3)), deliver(5, i(9)), leave(5), deliver(3, i(9)),
+      deliver(9, i(3))], None,
+     "answer 0 done 8 stations 2 | 3 - 9 stay | 9 3 - stay")
+
+# Tables for the questions.
+case("NIDEC holds for a staying station", [block(5)], [], None, "answer 0 done 0 stations 1 | 5 - - stay")
+case("a remove in another bag names nobody", [block(3, bag=[L, R]), block(5, leaving=1, left=3)], [], None,
+     "answer 0 done 0 stations 2 | 3 - - stay l r | 5 3 - leave")
+case("in line, with messages", [block(3, right=5), block(5, left=3, bag=[i(3)])])
+case("in line but for a left", [block(3, right=5), block(5)])
+case("in line but for a right", [block(3), block(5, left=3)])
+case("a neighbour passed over", [block(3, right=9), block(5, left=3, right=9), block(9, left=5)])
+
+
+# The same table stored in other orders.
+class Shuffle:
+    """A fixed row of numbers, the same on every machine."""
+
+    def __init__(self, seed):
+        self.state = seed
+
+    def below(self, n):
+        self.state = (self.state * 6364136223846793005 + 1442695040888963407) % (1 << 64)
+        return (self.state >> 33) % n
+
+    def pick(self, items):
+        return items[self.below(len(items))]
+
+    def of(self, items):
+        items = list(items)
+        for k in range(len(items) - 1, 0, -1):
+            j = self.below(k + 1)
+            items[k], items[j] = items[j], items[k]
+        return items
+
+
+def stored(line, shuffle):
+    """The blocks of a line, in some order and each with its messages in some order."""
+    return [block(p, s.left, s.right, int(s.leaving), shuffle.of(s.bag)) for p, s in shuffle.of(sorted(line.items()))]
+
+
+def same_output(title, table, steps, seeds):
+    """The table in written order and then shuffled; all give the same lines."""
+    table = write_table(read_table(b"".join(table)))
+    first = len(cases)
+    case(title, [table], steps, len(table))
+    for seed in seeds:
+        case(title + ", shuffled", stored(read_table(table), Shuffle(seed)), steps, len(table) + 100 * seed)
+    assert all(lines == cases[first][5] for _, _, _, _, _, lines in cases[first:])
+
+
+mixed = [block(1, right=8, bag=[i(8), i(2), R, i(2)]), block(2, left=1, right=5, leaving=1, bag=[L, R, L]),
+         block(5, left=2, right=8, bag=[i(9), i(1), i(5), i(9), i(2)]), block(9, leaving=1),
+         block(8, left=5, right=999999, bag=[R, L, i(9), i(1), R]), block(999999, left=9, bag=[i(8), i(2), L, i(5)])]
+same_output("a mixed table", mixed, [], (1, 2, 3))
+same_output("steps over a mixed table", mixed,
+            [deliver(5, i(9)), deliver(1, i(2)), timeout(2), deliver(8, R), deliver(999999, i(5)), timeout(999999),
+             deliver(8, i(1)), deliver(2, L), deliver(5, i(5)), deliver(999999, L), deliver(1, R)], (4, 5))
+same_output("steps over a mixed table, one refused", mixed, [deliver(5, i(9)), deliver(1, i(2)), leave(9), timeout(2)], (6,))
+
+# A long run over 64 stations, chosen step by step among those that can be done; stations that may exit do.
+shuffle = Shuffle(64)
+numbers = sorted({1, 999999} | {1 + (k * k * 7919 + k * 104729) % 999998 for k in range(2, 64)})
+assert len(numbers) == 64
+start = {}
+for k, p in enumerate(numbers):
+    below, above = numbers[max(0, k - 6):k], numbers[k + 1:k + 7]
+    bag = [i(shuffle.pick(numbers)) for _ in range(shuffle.below(4))]
+    bag += [shuffle.pick([L, R]) for _ in range(shuffle.below(3))]
+    start[p] = Station(shuffle.pick(below + [0]), shuffle.pick(above + [0]), k % 3 == 1, bag)
+
+line = read_table(write_table(start))
+chosen, exits = [], 0
+while len(chosen) < 4096:
+    ready = [p for p in sorted(line) if line[p].leaving and nidec(line, p)]
+    holding = [p for p in sorted(line) if line[p].bag]
+    if ready and shuffle.below(4):
+        record = leave(shuffle.pick(ready))
+    elif holding and shuffle.below(6):
+        p = shuffle.pick(holding)
+        record = deliver(p, shuffle.pick(sorted(line[p].bag)))
+    else:
+        record = timeout(shuffle.pick(sorted(line)))
+    if do_step(line, record) == 0:
+        chosen.append(record)
+        exits += record[0] == EXIT
+assert exits >= 12
+same_output("a long run over 64 stations", [write_table(start)], chosen, (7,))
+case("the long run, refused after 1,500 steps", stored(start, Shuffle(8)),
+     chosen[:1500] + [timeout(999998)] + chosen[1500:-1])
+half = case("the first half of the long run", stored(start, Shuffle(9)), chosen[:2048])
+case("its second half", [half], chosen[2048:])
+assert cases[-1][5][1:] == cases[-5][5][1:]
+case("the table that the long run leaves", stored(line, Shuffle(10)))
+
+# 64 stations in a line: every bag receives, a bag fills, the middle leaves.
+case("a timeout at each of 64", line64, [timeout(k) for k in range(1, 65)])
+case("a full bag in the middle of 64", line64, [timeout(32)] * 20 + [timeout(30)] * 32 + [timeout(32)] + [timeout(1)])
+
+assert {answer for _, _, _, _, answer, _ in cases} == set(range(16))
+
+# The check of this reading also gives each table of the program `checks` the number that tables.py names for it.
+with open("crates/checks/data/cases.bin", "rb") as tables, open("crates/checks/stdout") as answers:
+    for said in answers:
+        length, = struct.unpack("<I", tables.read(4))
+        assert check(tables.read(length)) == int(said.split()[1]), said
+
+# ---- what is written ----
+
+with open("crates/situations/data/cases.bin", "wb") as out:
+    for _, table, steps, room, _, _ in cases:
+        out.write(struct.pack("<III", len(table), len(steps), room) + table + steps)
+with open("crates/situations/stdout", "w") as out:
+    for k, (_, _, _, _, _, lines) in enumerate(cases, 1):
+        out.write("\n".join(["case %d" % k] + lines + ["rest kept"]) + "\n")
+
+yes = {"leave": 0, "line": 0}
+asked = []
+with open("tests/questions.txt", "w") as out:
+    for k, (_, table, _, _, _, _) in enumerate(cases, 1):
+        if table in asked:
+            continue
+        asked.append(table)
+        present = sorted(read_table(table)) if check(table) == 0 else [5]
+        for p in present + [q for q in (0, 6, 1000000, 4294967295) if q not in present]:
+            number, answer = may_leave(table, p)
+            out.write("%d leave %d %d %d\n" % (k, p, number, answer))
+            yes["leave"] += answer
+        number, answer = in_line(table)
+        out.write("%d line %d %d\n" % (k, number, answer))
+        yes["line"] += answer
+print("%d cases, %d exits in the long run, %d stations after it" % (len(cases), exits, len(line)))
+print("questions of %d tables, yes to leave %d, to line %d" % (len(asked), yes["leave"], yes["line"]))
