@@ -49,6 +49,13 @@ struct station_line_told {
     uint32_t answer, yes;
 };
 
+/* What a view gives at a position: the check's number, whether there is a block there (1) or not (0), the offset of its 512 bytes in
+ * the table, and the next position. */
+struct station_line_viewed {
+    uint32_t answer, has_block;
+    size_t offset, next;
+};
+
 /* Whether a table is accepted: 0, or 1 to 7. */
 uint32_t station_line_check(const uint8_t *table, size_t table_len);
 
@@ -68,6 +75,12 @@ struct station_line_told station_line_may_leave(const uint8_t *table, size_t tab
 /* Whether the table is in line: each station's left is the next smaller station present, none for the smallest, and likewise its
  * right. 1 to 7 of the table, or 0 with yes or no. The empty table is in line. */
 struct station_line_told station_line_in_line(const uint8_t *table, size_t table_len);
+
+/* The table block by block: begin at position 0, go on at next. Position p of an accepted table with more than p blocks is its block
+ * p in stored order, the 512 bytes at table + offset; offset is 512 p and next is p + 1. At any other position, and at every position
+ * of a table that is not accepted, there is no block: offset is 0 and next is that position, so the end comes again however often it
+ * is asked. Each call checks the table. */
+struct station_line_viewed station_line_view(const uint8_t *table, size_t table_len, size_t position);
 
 #ifdef __cplusplus
 }

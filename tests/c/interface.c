@@ -1,4 +1,4 @@
-/* The C interface as a C program meets it: all four functions on the example of document 01, on every refusal number, with rooms
+/* The C interface as a C program meets it: all five functions on the example of document 01, on every refusal number, with rooms
  * too short, exact and longer than needed, compared byte for byte. With file names as arguments it also asks the questions of
  * tests/questions.txt about the tables of cases.bin. The blocks are laid out here from document 01 alone. */
 #include <stdio.h>
@@ -246,6 +246,28 @@ static void try_questions(void) {
     ask("7 may leave, staying as it is", station_line_may_leave(table, 2 * BLOCK, 7), 0, 1);
 }
 
+/* The view gives the blocks in stored order, then the end however often it is asked; and none of a table that is not accepted. */
+static void try_view(void) {
+    uint8_t table[4 * BLOCK];
+    example(table);
+    size_t position = 0;
+    for (size_t k = 0; k < 4; k++) {
+        struct station_line_viewed seen = station_line_view(table, sizeof table, position);
+        expect(seen.answer == 0 && seen.has_block == 1 && seen.offset == BLOCK * k && seen.next == k + 1, "a block in stored order");
+        position = seen.next;
+    }
+    for (int again = 0; again < 3; again++) {
+        struct station_line_viewed end = station_line_view(table, sizeof table, position);
+        expect(end.answer == 0 && end.has_block == 0 && end.offset == 0 && end.next == position, "the end, again");
+    }
+    struct station_line_viewed far = station_line_view(table, sizeof table, SIZE_MAX), none = station_line_view(NULL, 0, 0);
+    expect(far.answer == 0 && far.has_block == 0 && far.next == SIZE_MAX, "a position past any block");
+    expect(none.answer == 0 && none.has_block == 0 && none.next == 0, "the empty table has no block");
+    table[300] = 1;
+    struct station_line_viewed refused = station_line_view(table, sizeof table, 0);
+    expect(refused.answer == 3 && refused.has_block == 0 && refused.offset == 0 && refused.next == 0, "no block of a refused table");
+}
+
 /* cases.bin: for each case the lengths of table, step list and room, then table and step list. questions.txt: the number of a case,
  * `leave` and a station or `line`, the number and yes. */
 static uint8_t *read_file(const char *path, size_t *n) {
@@ -311,6 +333,7 @@ int main(int argc, char **argv) {
     try_refusals();
     try_stops();
     try_questions();
+    try_view();
     if (argc == 3)
         try_listed(argv[1], argv[2]);
     printf("%u passed, %u failed\n", passed, failed);

@@ -1,11 +1,14 @@
 -- What the C interface hands back, in the terms of the run and of the questions (document 01, "The numbers a crew may see").
 use Prim.Native.Nat.{ℕ}
+use mathlib.Core.Bool.{cond}
 use mathlib.Core.List.{List}
 use Rattle.engine.specs.Ran.{Outcome}
 use Rattle.questions.specs.declared.Told.{Told}
 use Rattle.questions.specs.Told.{toldNumber, toldYes}
+use Rattle.view.specs.declared.Looked.{Looked}
 use Rattle.station_line.specs.declared.StationLineRan.{StationLineRan}
 use Rattle.station_line.specs.declared.StationLineTold.{StationLineTold}
+use Rattle.station_line.specs.declared.StationLineViewed.{StationLineViewed}
 
 -- the three numbers, with the room that is left
 abbrev pub said : StationLineRan → List ℕ → Outcome
@@ -14,3 +17,7 @@ said r room = record { answer = r .answer; done = r .done; stations = r .station
 -- the number and the value of a question's answer
 unfoldable pub toldAs : Told → StationLineTold
 toldAs t = record { answer = toldNumber t; yes = toldYes t }
+
+-- what is seen, with 1 for a block and 0 for the end
+unfoldable pub viewedAs : Looked → StationLineViewed
+viewedAs l = record { answer = l .answer; «has_block» = cond (l .found) 1 0; offset = l .offset; next = l .next }

@@ -1,15 +1,19 @@
 // The C interface (document 01, "The form each place needs": extern "C" run, leave question and line question on byte slices and
-// numbers). Each function hands its call on and repeats the equality of what it calls. A slice is a pointer and a length in C.
+// numbers), with the check and the view beside them. Each function hands its call on and repeats the equality of what it calls. A slice
+// is a pointer and a length in C; the view has offsets in the place of references.
 use engine::runs::run;
 use questions::Told;
 use questions::in_line;
 use questions::may_leave;
 use table::check;
+use view::Looked;
+use view::look;
 ghost use mathlib.Core.Path.{_≡_};
 ghost use Rattle.table.specs.Fault.{faultOf};
 ghost use Rattle.engine.specs.Ran.{outcome};
 ghost use Rattle.questions.specs.Told.{mayLeave, isInLine};
-ghost use Rattle.station_line.specs.Interface.{said, toldAs};
+ghost use Rattle.view.specs.View.{viewed};
+ghost use Rattle.station_line.specs.Interface.{said, toldAs, viewedAs};
 
 // The number of a run, the steps done and the stations now.
 #[repr(C)]
@@ -24,6 +28,16 @@ pub struct StationLineRan {
 pub struct StationLineTold {
     pub answer: u32,
     pub yes: u32,
+}
+
+// What a view of the table gives at a position: the check's number, 1 where there is a block, its offset in the table, and the next
+// position.
+#[repr(C)]
+pub struct StationLineViewed {
+    pub answer: u32,
+    pub has_block: u32,
+    pub offset: usize,
+    pub next: usize,
 }
 
 #[no_mangle]
@@ -67,4 +81,23 @@ pub extern "C" fn station_line_in_line(table: &[u8]) -> StationLineTold
     ensures { λ r. ⌜ r ≡ toldAs (isInLine (now (table .entry))) ⌝ }
 {
     told_as(in_line(table))
+}
+
+// What is seen, with 1 for a block.
+fn viewed_as(looked: Looked) -> StationLineViewed
+    ensures { λ r. ⌜ r ≡ viewedAs looked ⌝ }
+{
+    StationLineViewed {
+        answer: looked.answer,
+        has_block: looked.found as u32,
+        offset: looked.offset,
+        next: looked.next,
+    }
+}
+
+#[no_mangle]
+pub extern "C" fn station_line_view(table: &[u8], position: usize) -> StationLineViewed
+    ensures { λ r. ⌜ r ≡ viewedAs (viewed (now (table .entry)) position) ⌝ }
+{
+    viewed_as(look(table, position))
 }

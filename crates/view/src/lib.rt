@@ -1,0 +1,124 @@
+// The view (document 01, "The block"): "A console view holds the caller's table and walks it block by block without a copy". A position
+// counts blocks. The functions that do the work come first; those of the struct only take it apart and call them, and `view_block`
+// stands above these for callers with plain parameters.
+use table::check;
+ghost use mathlib.Core.Path.{_≡_};
+ghost use Rattle.table.specs.Fault.{faultOf};
+ghost use Rattle.view.specs.View.{keptAt, kept, seen, placed, behind, after as afterIn, viewed};
+
+// What is to be seen at a position, in numbers: the check's number, whether there is a block, where it lies in the table, and the next
+// position.
+pub struct Looked {
+    pub answer: u32,
+    pub found: bool,
+    pub offset: usize,
+    pub next: usize,
+}
+
+// What an answer leaves of a table for a view: all of it at 0, else an empty part.
+fn keep(table: &[u8], answer: u32) -> &[u8]
+    ensures { λ r. ⌜ (now r ≡ keptAt answer (now (table .entry))) × (r .ptr ≡ table .entry .ptr) ⌝ }
+{
+    if answer != 0 {
+        return &table[0..0];
+    }
+    table
+}
+
+// The block at a position, where it lies; an empty part at the end.
+fn block_from(table: &[u8], position: usize) -> &[u8]
+    ensures { λ r. ⌜ (now r ≡ seen (now (table .entry)) position) × (r .ptr ≡ behind (table .entry .ptr) (placed (now (table .entry)) position)) ⌝ }
+{
+    let blocks = table.len() / 512;
+    if position >= blocks {
+        return &table[0..0];
+    }
+    let start = 512 * position;
+    let end = start + 512;
+    &table[start..end]
+}
+
+// The position after it; the end stays the end.
+fn after(table: &[u8], position: usize) -> usize
+    ensures { λ r. ⌜ r ≡ afterIn (now (table .entry)) position ⌝ }
+{
+    if position >= table.len() / 512 {
+        return position;
+    }
+    position + 1
+}
+
+// All of it for any bytes and any position, in numbers: "Over a table that isn't accepted it gives the check's number and no block".
+pub fn look(table: &[u8], position: usize) -> Looked
+    ensures { λ r. ⌜ r ≡ viewed (now (table .entry)) position ⌝ }
+{
+    let answer = check(table);
+    let blocks = keep(table, answer).len() / 512;
+    if position >= blocks {
+        return Looked {
+            answer,
+            found: false,
+            offset: 0,
+            next: position,
+        };
+    }
+    Looked {
+        answer,
+        found: true,
+        offset: 512 * position,
+        next: position + 1,
+    }
+}
+
+// The view: the bytes that it shows of the caller's table, and a position in them.
+pub struct View<'a> {
+    pub table: &'a [u8],
+    pub position: usize,
+}
+
+// What opening a view gives: the check's number, and the bytes that the view shows, which are none beside any number but 0.
+pub struct Opened<'a> {
+    pub answer: u32,
+    pub table: &'a [u8],
+}
+
+// Checks the caller's table, once for the whole walk; the view of what is opened starts at position 0.
+pub fn open_view<'a>(table: &'a [u8]) -> Opened<'a>
+    ensures { λ r. ⌜ (r .answer ≡ faultOf (now (table .entry))) × (now (r .table) ≡ kept (now (table .entry))) × (r .table .ptr ≡ table .entry .ptr) ⌝ }
+{
+    let answer = check(table);
+    let shown = keep(table, answer);
+    Opened {
+        answer,
+        table: shown,
+    }
+}
+
+// The block at the view's position, those 512 bytes of the caller's table; an empty part at the end.
+pub fn current<'a>(view: View<'a>) -> &'a [u8]
+    ensures { λ r. ⌜ (now r ≡ seen (now (view .entry .table)) (view .entry .position)) × (r .ptr ≡ behind (view .entry .table .ptr) (placed (now (view .entry .table)) (view .entry .position))) ⌝ }
+{
+    block_from(view.table, view.position)
+}
+
+// The view moved on by one block; at the end it stays there.
+pub fn advance<'a>(view: View<'a>) -> View<'a>
+    ensures { λ r. ⌜ (r .table ≡ view .entry .table) × (r .position ≡ afterIn (now (view .entry .table)) (view .entry .position)) ⌝ }
+{
+    let position = after(view.table, view.position);
+    View {
+        table: view.table,
+        position,
+    }
+}
+
+// The block that a view of the table gives at a position: plain parameters, so that a caller of it needs no walk by hand.
+pub fn view_block(table: &[u8], position: usize) -> &[u8]
+    ensures { λ r. ⌜ (now r ≡ seen (kept (now (table .entry))) position) × (r .ptr ≡ behind (table .entry .ptr) (placed (kept (now (table .entry))) position)) ⌝ }
+{
+    let opened = open_view(table);
+    current(View {
+        table: opened.table,
+        position,
+    })
+}
