@@ -1,0 +1,69 @@
+/* `draw`: the line as Graphviz text, the stations in a row by rising number. Solid arrows lead to neighbours and dashed ones to
+ * stations introduced in a bag, one for each copy; remove-left and remove-right link nothing. */
+#include <stdio.h>
+#include <stdlib.h>
+
+#include "commands.h"
+#include "layout.h"
+#include "view.h"
+#include "words.h"
+
+static int by_number(const void *a, const void *b) {
+    uint32_t x = ((const struct station *)a)->number, y = ((const struct station *)b)->number;
+    return (x > y) - (x < y);
+}
+
+static void draw_node(const struct station *station) {
+    if (station->leaving)
+        (void)printf("    %u [label=\"%u\\nleaving\", style=filled, fillcolor=lightgrey];\n", (unsigned)station->number,
+                     (unsigned)station->number);
+    else
+        (void)printf("    %u;\n", (unsigned)station->number);
+}
+
+/* Arrows that are not seen set the row; those that are seen have no say in it. */
+static void draw_row(const struct station *stations, size_t count) {
+    if (count == 0)
+        return;
+    (void)printf("    { edge [style=invis, constraint=true]; %u", (unsigned)stations[0].number);
+    for (size_t k = 1; k < count; k++)
+        (void)printf(" -> %u", (unsigned)stations[k].number);
+    (void)printf("; }\n");
+}
+
+static void draw_arrows(const struct station *station) {
+    unsigned from = (unsigned)station->number;
+    if (station->left != 0)
+        (void)printf("    %u -> %u;\n", from, (unsigned)station->left);
+    if (station->right != 0)
+        (void)printf("    %u -> %u;\n", from, (unsigned)station->right);
+    for (size_t k = 0; k < station->count; k++)
+        if (station->bag[k].kind == INTRODUCTION)
+            (void)printf("    %u -> %u [style=dashed];\n", from, (unsigned)station->bag[k].number);
+}
+
+static void draw(struct station *stations, size_t count) {
+    qsort(stations, count, sizeof stations[0], by_number);
+    (void)printf("digraph line {\n    rankdir=LR;\n    node [shape=circle, fixedsize=true, width=0.8, fontsize=12];\n"
+                 "    edge [constraint=false];\n");
+    for (size_t k = 0; k < count; k++)
+        draw_node(&stations[k]);
+    draw_row(stations, count);
+    for (size_t k = 0; k < count; k++)
+        draw_arrows(&stations[k]);
+    (void)printf("}\n");
+}
+
+int draw_command(const struct arguments *arguments) {
+    uint8_t table[TABLE_BYTES + 1];
+    struct station stations[MOST_STATIONS];
+    struct view view;
+    int status = view_file(arguments->words[0], table, &view);
+    if (status != DONE)
+        return status;
+    size_t count = 0;
+    for (const uint8_t *block = view_next(&view); block != NULL && count < MOST_STATIONS; block = view_next(&view))
+        read_block(block, &stations[count++]);
+    draw(stations, count);
+    return DONE;
+}

@@ -1,0 +1,143 @@
+//! Compares the archive, through its C interface, with the model of tests/model on random tables and step lists.
+//!
+//! `--seed N` the seed (else taken from the clock), `--cases N` how many cases, `--seconds N` how long, with progress on the
+//! screen, `--case K` only case K of the seed, with both results shown. The last line is `N passed, M failed`, counting cases.
+#![deny(warnings)]
+
+mod archive;
+mod cases;
+mod joined;
+mod random;
+mod steps;
+mod tables;
+mod tally;
+
+use std::process::ExitCode;
+use std::sync::atomic::{AtomicU64, Ordering};
+use std::time::{Duration, Instant, SystemTime, UNIX_EPOCH};
+
+use random::Random;
+use tally::Tally;
+
+struct Options {
+    seed: u64,
+    cases: Option<u64>,
+    seconds: Option<u64>,
+    only: Option<u64>,
+}
+
+fn options() -> Result<Options, String> {
+    let clock = SystemTime::now()
+        .duration_since(UNIX_EPOCH)
+        .map_or(1, |d| d.as_secs());
+    let mut options = Options {
+        seed: clock,
+        cases: None,
+        seconds: None,
+        only: None,
+    };
+    let mut words = std::env::args().skip(1);
+    while let Some(word) = words.next() {
+        let value = words.next().ok_or(format!("{word} needs a number"))?;
+        let number: u64 = value
+            .parse()
+            .map_err(|_| format!("{value} is not a number"))?;
+        match word.as_str() {
+            "--seed" => options.seed = number,
+            "--cases" => options.cases = Some(number),
+            "--seconds" => options.seconds = Some(number),
+            "--case" => options.only = Some(number),
+            _ => return Err(format!("unknown: {word}")),
+        }
+    }
+    Ok(options)
+}
+
+/// From this many cases on, an outcome that was never met is a failure of the comparison itself.
+const ENOUGH: u64 = 40_000;
+const DIFFERENCES_SHOWN: u64 = 10;
+
+/// The case at hand, told if the comparison itself stops.
+static AT_HAND: AtomicU64 = AtomicU64::new(0);
+
+fn main() -> ExitCode {
+    let options = match options() {
+        Ok(options) => options,
+        Err(what) => {
+            eprintln!("{what}");
+            eprintln!("differential [--seed N] [--cases N] [--seconds N] [--case K]");
+            return ExitCode::from(2);
+        }
+    };
+    let seed = options.seed;
+    println!("seed {seed}");
+    std::panic::set_hook(Box::new(move |what| {
+        let number = AT_HAND.load(Ordering::Relaxed);
+        eprintln!("stopped at seed {seed}, case {number}: {what}");
+    }));
+    let started = Instant::now();
+    let mut tally = Tally::default();
+    let mut failed = 0;
+    let mut tried = 0;
+    if let Some(number) = options.only {
+        cases::show(&cases::draw(&mut Random::of_case(seed, number), number));
+        failed += u64::from(!one(seed, number, &mut tally, true));
+        tried = 1;
+    } else {
+        let cases = options.cases.unwrap_or(if options.seconds.is_some() {
+            u64::MAX
+        } else {
+            60_000
+        });
+        let limit = options.seconds.map(Duration::from_secs);
+        let mut next_report = Duration::from_secs(10);
+        while tried < cases {
+            if !one(seed, tried, &mut tally, failed < DIFFERENCES_SHOWN) {
+                failed += 1;
+            }
+            tried += 1;
+            if tried % 64 == 0 && limit.is_some() {
+                let gone = started.elapsed();
+                if Some(gone) >= limit {
+                    break;
+                }
+                if gone >= next_report {
+                    println!("{} s: {tried} cases, {failed} failed", gone.as_secs());
+                    next_report = gone + Duration::from_secs(10);
+                }
+            }
+        }
+        tally.print();
+        if tried >= ENOUGH {
+            for what in tally.missing() {
+                println!("never met: {what}");
+                failed += 1;
+            }
+        }
+    }
+    println!("{:.1} s, seed {seed}", started.elapsed().as_secs_f64());
+    println!("{} passed, {failed} failed", tried.saturating_sub(failed));
+    if failed == 0 {
+        ExitCode::SUCCESS
+    } else {
+        ExitCode::FAILURE
+    }
+}
+
+/// One case; false where the archive and the model differ.
+fn one(seed: u64, number: u64, tally: &mut Tally, show: bool) -> bool {
+    AT_HAND.store(number, Ordering::Relaxed);
+    let mut random = Random::of_case(seed, number);
+    let case = cases::draw(&mut random, number);
+    let Err(what) = cases::compare(&mut random, &case, tally) else {
+        return true;
+    };
+    if show {
+        println!(
+            "difference: seed {seed}, case {number} ({}): {what}",
+            cases::KINDS[case.kind]
+        );
+        println!("replay it with --seed {seed} --case {number}");
+    }
+    false
+}

@@ -1,0 +1,151 @@
+//! A second reading of document 01, to compare the receiver with.
+//!
+//! It was written from document 01 alone and is built differently on purpose: a table is a map from station numbers to
+//! stations, a bag is a map from messages to the number of their copies, and the bytes are dealt with at the two ends only.
+//! The comments name the section of document 01 that each part follows.
+#![deny(warnings)]
+
+mod bytes;
+mod listing;
+mod rules;
+#[cfg(test)]
+mod situations;
+
+use std::collections::BTreeMap;
+
+pub use bytes::{read_step, read_table, write_step, write_table};
+pub use listing::{listing, program};
+pub use rules::{Effect, apply, copies, effect, nidec};
+
+/// The sizes of "What the engine holds", "The block" and "The step list".
+pub const BLOCK: usize = 512;
+pub const STEP: usize = 12;
+pub const LARGEST_NUMBER: u32 = 999_999;
+pub const MOST_STATIONS: usize = 64;
+pub const MOST_MESSAGES: usize = 32;
+pub const MOST_STEPS: usize = 4096;
+
+/// "What the engine holds": the three messages. Their order here, by kind and then by number, is the order of writing.
+#[derive(Clone, Copy, Debug, PartialEq, Eq, PartialOrd, Ord)]
+pub enum Message {
+    Introduction(u32),
+    RemoveLeft,
+    RemoveRight,
+}
+
+/// "A bag may hold equal messages and every copy counts": each message with the number of its copies, never 0.
+pub type Bag = BTreeMap<Message, usize>;
+
+#[derive(Clone, Debug, Default, PartialEq, Eq)]
+pub struct Station {
+    pub left: Option<u32>,
+    pub right: Option<u32>,
+    pub leaving: bool,
+    pub bag: Bag,
+}
+
+/// The stations by their numbers. "A station that has gone has no block": it has no entry.
+pub type Table = BTreeMap<u32, Station>;
+
+/// "The step list": what is done, and at which station.
+#[derive(Clone, Copy, Debug, PartialEq, Eq)]
+pub struct Step {
+    pub station: u32,
+    pub action: Action,
+}
+
+#[derive(Clone, Copy, Debug, PartialEq, Eq)]
+pub enum Action {
+    Timeout,
+    Deliver(Message),
+    Exit,
+}
+
+/// "The numbers a crew may see". The table after the steps done is there where it is written: at 0 and at 10 to 15.
+#[derive(Clone, Debug, PartialEq, Eq)]
+pub struct Ran {
+    pub answer: u32,
+    pub done: usize,
+    pub table: Option<Table>,
+}
+
+impl Ran {
+    /// "Stations now": the blocks written, or 0 where nothing is.
+    pub fn stations(&self) -> usize {
+        self.table.as_ref().map_or(0, Table::len)
+    }
+
+    /// What the beginning of the room holds afterwards; the bytes past it are not touched.
+    pub fn written(&self) -> Vec<u8> {
+        self.table.as_ref().map_or(Vec::new(), write_table)
+    }
+
+    fn nothing(answer: u32) -> Ran {
+        Ran {
+            answer,
+            done: 0,
+            table: None,
+        }
+    }
+}
+
+/// "The check returns its number alone": 0, or 1 to 7.
+pub fn check(table: &[u8]) -> u32 {
+    match read_table(table) {
+        Ok(_) => 0,
+        Err(number) => number,
+    }
+}
+
+/// "The whole run", for a room of the given length.
+pub fn run(table: &[u8], steps: &[u8], room: usize) -> Ran {
+    let mut now = match read_table(table) {
+        Ok(stations) => stations,
+        Err(number) => return Ran::nothing(number),
+    };
+    if steps.len() % STEP != 0 || steps.len() / STEP > MOST_STEPS {
+        return Ran::nothing(8);
+    }
+    if room < table.len() {
+        return Ran::nothing(9);
+    }
+    let mut answer = 0;
+    let mut done = 0;
+    for twelve in steps.chunks(STEP) {
+        match read_step(twelve).and_then(|step| effect(&now, step)) {
+            Ok(effect) => {
+                apply(&mut now, effect);
+                done += 1;
+            }
+            Err(number) => {
+                answer = number;
+                break;
+            }
+        }
+    }
+    Ran {
+        answer,
+        done,
+        table: Some(now),
+    }
+}
+
+/// "Ask whether a station may leave, which is yes exactly when NIDEC holds for it, leaving mark or not"; 11 where it is absent.
+pub fn may_leave(table: &[u8], station: u32) -> Result<bool, u32> {
+    let stations = read_table(table)?;
+    if stations.contains_key(&station) {
+        Ok(nidec(&stations, station))
+    } else {
+        Err(11)
+    }
+}
+
+/// "In line: each station's left is the next smaller station present, none for the smallest, and likewise its right."
+pub fn in_line(table: &[u8]) -> Result<bool, u32> {
+    let stations = read_table(table)?;
+    Ok(stations.iter().all(|(&number, station)| {
+        let smaller = stations.range(..number).next_back().map(|(&n, _)| n);
+        let larger = stations.range(number + 1..).next().map(|(&n, _)| n);
+        station.left == smaller && station.right == larger
+    }))
+}
