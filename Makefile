@@ -1,6 +1,7 @@
 # The station line. `make run` does the main job, `make test` runs every test, `make` builds the archive for C; all need the Rattle kit
-# and a C compiler, the tests also rustc and python3. `make console` builds the console program, and `make install PREFIX=/usr/local` installs it with the library.
-.PHONY: all run test soak clean console install
+# and a C compiler, the tests also rustc and python3. `make console` builds the console program, `make install PREFIX=/usr/local` installs
+# it with the library.
+.PHONY: all run test soak fuzz bench clean console install
 
 all: target/staticlib/libstation_line.a
 
@@ -19,6 +20,14 @@ test:
 SECONDS ?= 600
 soak:
 	@./tests/differential/run --soak $(SECONDS)
+
+# Fuzzes the archive through its C interface, for SECONDS seconds.
+fuzz:
+	@./fuzz/run $(SECONDS)
+
+# Times the archive beside the model and a tuned Rust version; bench/run --count adds instruction counts.
+bench:
+	@./bench/run
 
 clean:
 	@rm -rf target

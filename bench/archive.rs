@@ -1,0 +1,72 @@
+//! The archive through its C interface (include/station_line.h).
+
+use crate::tuned::Ran as TunedRan;
+
+#[repr(C)]
+#[derive(Clone, Copy)]
+struct Ran {
+    answer: u32,
+    done: u32,
+    stations: u32,
+}
+
+#[repr(C)]
+#[derive(Clone, Copy)]
+struct Told {
+    answer: u32,
+    yes: u32,
+}
+
+unsafe extern "C" {
+    fn station_line_check(table: *const u8, table_len: usize) -> u32;
+    fn station_line_run(
+        table: *const u8,
+        table_len: usize,
+        steps: *const u8,
+        steps_len: usize,
+        room: *mut u8,
+        room_len: usize,
+    ) -> Ran;
+    fn station_line_may_leave(table: *const u8, table_len: usize, station: u32) -> Told;
+    fn station_line_in_line(table: *const u8, table_len: usize) -> Told;
+}
+
+// Each pointer below is that of a slice, valid for its length, and the room is lent for writing: what the header asks for.
+
+pub fn check(table: &[u8]) -> u32 {
+    unsafe { station_line_check(table.as_ptr(), table.len()) }
+}
+
+pub fn run(table: &[u8], steps: &[u8], room: &mut [u8]) -> TunedRan {
+    let ran = unsafe {
+        station_line_run(
+            table.as_ptr(),
+            table.len(),
+            steps.as_ptr(),
+            steps.len(),
+            room.as_mut_ptr(),
+            room.len(),
+        )
+    };
+    TunedRan {
+        answer: ran.answer,
+        done: ran.done,
+        stations: ran.stations,
+    }
+}
+
+fn told(told: Told) -> Result<bool, u32> {
+    if told.answer == 0 {
+        Ok(told.yes == 1)
+    } else {
+        Err(told.answer)
+    }
+}
+
+pub fn may_leave(table: &[u8], station: u32) -> Result<bool, u32> {
+    told(unsafe { station_line_may_leave(table.as_ptr(), table.len(), station) })
+}
+
+pub fn in_line(table: &[u8]) -> Result<bool, u32> {
+    told(unsafe { station_line_in_line(table.as_ptr(), table.len()) })
+}

@@ -1,0 +1,62 @@
+/* How a fuzzer's input is cut into a call: 16 bytes of numbers, then the table, then the step list.
+ *
+ *   0-3 length of the table, 4-7 length of the step list, 8-11 length of the room, 12-15 station asked about, little-endian.
+ *
+ * Each length is cut down to what is there (the room's to the most allowed below), so that any bytes are an input. */
+#ifndef FUZZ_CASE_H
+#define FUZZ_CASE_H
+
+#include <stddef.h>
+#include <stdint.h>
+
+enum {
+    BLOCK = 512,
+    STEP = 12,
+    HEAD = 16,
+    MOST_TABLE = 66 * BLOCK,
+    MOST_STEPS = 4098 * STEP,
+    MOST_ROOM = 68 * BLOCK,
+    LARGEST = 999999
+};
+
+/* How often the runs of the inputs gave each answer. */
+extern uint64_t answers_met[16];
+
+struct cut {
+    const uint8_t *table, *steps;
+    size_t table_len, steps_len, room_len;
+    uint32_t station;
+};
+
+static inline uint32_t get16(const uint8_t *at)
+{
+    return (uint32_t)at[0] | (uint32_t)at[1] << 8;
+}
+
+static inline uint32_t get32(const uint8_t *at)
+{
+    return get16(at) | get16(at + 2) << 16;
+}
+
+static inline size_t smaller(size_t a, size_t b)
+{
+    return a < b ? a : b;
+}
+
+static inline struct cut cut(const uint8_t *data, size_t size)
+{
+    static const uint8_t none[HEAD];
+    const uint8_t *head = size < HEAD ? none : data;
+    const uint8_t *body = size < HEAD ? none : data + HEAD;
+    size_t rest = size < HEAD ? 0 : size - HEAD;
+    struct cut c;
+    c.table = body;
+    c.table_len = smaller(smaller(get32(head), rest), MOST_TABLE);
+    c.steps = body + c.table_len;
+    c.steps_len = smaller(smaller(get32(head + 4), rest - c.table_len), MOST_STEPS);
+    c.room_len = smaller(get32(head + 8), MOST_ROOM);
+    c.station = get32(head + 12);
+    return c;
+}
+
+#endif

@@ -1,0 +1,30 @@
+/* Hands files to the harness one by one, without a fuzzer: for the kept cases as tests. The last line is 'N passed, M failed'; a case
+ * that breaks a law stops the program before that line. */
+#include "case.h"
+
+#include <stdio.h>
+#include <stdlib.h>
+
+int LLVMFuzzerTestOneInput(const uint8_t *data, size_t size);
+
+int main(int argc, char **argv)
+{
+    static uint8_t data[HEAD + MOST_TABLE + MOST_STEPS];
+    for (int k = 1; k < argc; k++) {
+        FILE *file = fopen(argv[k], "rb");
+        if (file == NULL) {
+            perror(argv[k]);
+            return 2;
+        }
+        size_t size = fread(data, 1, sizeof data, file);
+        fclose(file);
+        fprintf(stderr, "%s\n", argv[k]);
+        LLVMFuzzerTestOneInput(data, size);
+    }
+    printf("answers met:");
+    for (int k = 0; k < 16; k++) {
+        printf(" %d: %llu%s", k, (unsigned long long)answers_met[k], k < 15 ? "," : "\n");
+    }
+    printf("%d passed, 0 failed\n", argc - 1);
+    return 0;
+}

@@ -1,0 +1,30 @@
+#!/usr/bin/env python3
+"""Writes the seeds of fuzz/corpus: the printed example of document 01 and the shorter cases of crates/situations/data/cases.bin. Run it
+in the repository's root. An input is four numbers of 32 bits (length of the table, of the step list, of the room; the station asked
+about), the table and the step list."""
+import pathlib
+import struct
+
+MOST = 3000
+corpus = pathlib.Path("fuzz/corpus")
+
+
+def seed(name, table, steps, room):
+    station = struct.unpack("<I", table[4:8])[0] if len(table) >= 8 else 5
+    (corpus / name).write_bytes(struct.pack("<IIII", len(table), len(steps), room, station) + table + steps)
+
+
+corpus.mkdir(exist_ok=True)
+example = pathlib.Path("examples/table.bin").read_bytes()
+seed("example", example, pathlib.Path("examples/steps.bin").read_bytes(), len(example))
+data = pathlib.Path("crates/situations/data/cases.bin").read_bytes()
+at = case = 0
+seen = set()
+while at < len(data):
+    table_len, steps_len, room = struct.unpack_from("<III", data, at)
+    table, steps = data[at + 12:at + 12 + table_len], data[at + 12 + table_len:at + 12 + table_len + steps_len]
+    if table_len + steps_len <= MOST and (table, steps) not in seen:
+        seen.add((table, steps))
+        seed(f"situation-{case:03}", table, steps, room)
+    at += 12 + table_len + steps_len
+    case += 1
