@@ -1,7 +1,7 @@
 #!/usr/bin/env python3
 """Writes the runs that the program `situations` makes, and what it must print.
 
-Below is a reading of document 01 in plain Python, made from the document alone with no help from the crates: the check
+Below is a reading of document 01 in plain Python, made from the document before the crates of the machine were opened: the check
 (1 to 7), the run (8 to 15), the two questions and the printed listing. The thirteen situations, the printed example and
 most other cases also say by hand what must be printed, and the script stops if the reading gives another. Run it in the
 repository's root; it writes crates/situations/data/cases.bin, crates/situations/stdout and tests/questions.txt, which

@@ -1,6 +1,6 @@
 //! A second reading of document 01, to compare the receiver with.
 //!
-//! It was written from document 01 alone and is built differently on purpose: a table is a map from station numbers to
+//! It was written from document 01, without the crates, and is built differently on purpose: a table is a map from station numbers to
 //! stations, a bag is a map from messages to the number of their copies, and the bytes are dealt with at the two ends only.
 //! The comments name the section of document 01 that each part follows.
 #![deny(warnings)]

@@ -116,7 +116,7 @@ fn arrive(sending: Sending, own: Bag, there: Bag) -> Bag
     }
 }
 
-// The whole step: its answer and, where that is 0, the bags to store. Refused, it stores nothing, and the bags are those that were there.
+// The whole step: its answer and, where that is 0, the bags to store. A refused step has nothing to store, and its bags are left free.
 pub fn work_out(decision: Decision, first: Bag, second: Bag) -> Worked
     ensures { λ r. ⌜ Works decision first second r ⌝ }
 {
