@@ -231,3 +231,11 @@ module _ {A : Type 0} (f : A → Bool) where
       go : (t : Bool) → Ordered before (removeFirst f l) → Ordered before (cond t l (x ∷ removeFirst f l))
       go true r = h .1
       go false r = (λ y m. h .0 y (removed-mem l m), r)
+
+-- some element of a sorted list passes where some element of the list does
+pub sort-any : {A : Type 0} (before : A → A → Bool) (f : A → Bool) (l : List A) → any f (sort before l) ≡ any f l
+sort-any before f l = go (any f l) refl
+  where
+    go : (t : Bool) → any f l ≡ t → any f (sort before l) ≡ t
+    go true e = let w = any-true f l e in true-any f (mem-sort before l (w .1)) (w .2)
+    go false e = fails (any f (sort before l)) (λ h. let w = any-true f (sort before l) h in clash (true-any f (sort-mem before l (w .1)) (w .2)) e)

@@ -16,7 +16,7 @@ ghost use Rattle.bag.specs.Places.{removeAt};
 ghost use Rattle.arrays.specs.Arrays.{lineIn};
 ghost use Rattle.moves.specs.Places.{siteAt};
 
-fn is_neighbour(p: u32, n: Neighbour) -> bool
+pub fn is_neighbour(p: u32, n: Neighbour) -> bool
     ensures { λ r. ⌜ r ≡ spec.isNeighbour p n ⌝ }
 {
     match n {

@@ -45,19 +45,19 @@ pub fn check_sum(b: &[u8]) -> u16
     sum
 }
 
-// Whether all bytes from one index up to another are 0.
+// Whether all bytes from one index up to another are 0. There is no early return, so that the bytes are tested together, many at a
+// time.
 pub fn zero_between(b: &[u8], from: usize, to: usize) -> bool
     requires { ⌜ to ≤ length (now b) ⌝ }
     ensures { λ r. ⌜ r ≡ allZero (part (now (b .entry)) from to) ⌝ }
 {
+    let mut clear = true;
     let mut i = from;
     while i < to {
-        if b[i] != 0 {
-            return false;
-        }
+        clear = clear & (b[i] == 0);
         i += 1;
     }
-    true
+    clear
 }
 
 pub fn write_word(room: &mut [u8], at: usize, x: u16)

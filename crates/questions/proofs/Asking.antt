@@ -1,5 +1,5 @@
 -- One law for each way through the code of the questions: a refused table, a station that is found or is not, a place that stands.
-use Prim.Native.Nat.{ℕ, _+_, _-_, _/_, _≤_, _<_}
+use Prim.Native.Nat.{ℕ, _+_, _/_, _≤_, _<_}
 use mathlib.Core.Path.{_≡_, refl, sym, ap, _∙_}
 use mathlib.Core.Logic.{_≢_}
 use mathlib.Core.Bool.{Bool, true, false, cond, _&&_, and-assoc}
@@ -10,7 +10,6 @@ use lib.Dec.{eqb, ltb}
 use lib.ListN.{length, getD, take, drop, length-map, drop-of-length-le, List·getD-map}
 use lib.Seq.{drop-cons}
 use borrow.Author.Tests.{ne-eqb, ltb-true, ltb-false}
-use Rattle.line.specs.declared.Message.{Message}
 use Rattle.line.specs.declared.Neighbour.{Neighbour}
 use Rattle.line.specs.declared.Neighbour.the-variants.{None, Station}
 use Rattle.line.specs.declared.Station as declared
@@ -27,13 +26,10 @@ use Rattle.table.specs.Blocks.{lineOf}
 use Rattle.table.specs.Fault.{faultOf}
 use Rattle.table.proofs.Accepting.{table-accepted}
 use Rattle.table.proofs.NumberLaws.{found-member, found-there}
-use Rattle.arrays.specs.Arrays.{lineIn}
-use Rattle.arrays.specs.Order.{stationsOf, countsOf, numbersOf}
+use Rattle.arrays.specs.Order.{stationsOf, numbersOf}
 use Rattle.arrays.proofs.Sites.{filled-at, line-at}
-use Rattle.moves.specs.Places.{siteAt}
 use Rattle.effects.proofs.OnePlace.{find-at, find-nowhere}
-use Rattle.effects.proofs.Stores.{kept-place}
-use Rattle.effects.proofs.Starting.{line-size, numbers-read, starts-kept}
+use Rattle.effects.proofs.Starting.{line-size, numbers-read}
 use Rattle.questions.specs.declared.Told.{Told}
 use Rattle.questions.specs.declared.Told.the-variants.{Refused}
 use Rattle.questions.specs.Told.{yesNo, asked, leaveAt}
@@ -103,12 +99,8 @@ module _ (t : List ℕ) (clean : faultOf t ≡ 0) where
     pub leave-absent : n ≤ i → Refused 11 ≡ leaveAt (lineOf t) (find q (lineOf t))
     leave-absent h = rw (absent (lineOf t) q i at (omega (arith, line-size t clean)))
 
-    pub leave-found : i < n → (bags : List (List Message)) → length bags ≡ 64 → lineIn n (stationsOf t) bags (countsOf t) ≡ lineOf t
-        → {stations : List declared.Station} {counts : List ℕ} → stations ≡ stationsOf t → counts ≡ countsOf t
-        → {b : Bool} → b ≡ nidec (lineIn n stations bags counts) (siteAt stations bags counts i) → yesNo b ≡ leaveAt (lineOf t) (find q (lineOf t))
-    leave-found h bags rows is p r k =
-        let there = kept-place (starts-kept t clean bags rows is .tidy) i h in
-        rw (k, p, r, ← there, is, found (lineOf t) q i at (table-accepted t clean .2 .rising) (omega (arith, line-size t clean)))
+    pub leave-found : i < n → {b : Bool} → b ≡ nidec (lineOf t) (getD (lineOf t) i nobody) → yesNo b ≡ leaveAt (lineOf t) (find q (lineOf t))
+    leave-found h k = rw (k, found (lineOf t) q i at (table-accepted t clean .2 .rising) (omega (arith, line-size t clean)))
 
   -- whether the table is in line: the station at a place, and the first from there on
   module _ {stations : List declared.Station} (read : stations ≡ stationsOf t) where

@@ -1,3 +1,4 @@
 -- Why the answers mean what the paper says, and what the proofs of the questions share.
 pub mod Meanings
+pub mod Sparing
 pub mod Asking

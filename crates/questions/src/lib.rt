@@ -1,13 +1,13 @@
 // The questions (document 01, "What the engine holds" and "The numbers a crew may see"): "A question checks the table first (1 to 7)",
 // and "At 0 a question returns yes or no as well".
+pub mod leaving;
+
 use arrays::order;
-use arrays::read_bags;
-use arrays::read_counts;
 use arrays::read_numbers;
 use arrays::read_stations;
+use leaving::nidec;
 use line::Neighbour;
 use line::Station;
-use moves::exits::nidec;
 use table::check;
 use table::numbers::lookup;
 ghost use mathlib.Core.Path.{_≡_};
@@ -73,10 +73,7 @@ fn leave_of(table: &[u8], station: u32) -> Told
     if n <= i {
         return Told::Refused(11);
     }
-    let stations = read_stations(table, order);
-    let bags = read_bags(table, order);
-    let counts = read_counts(table, order);
-    yes_no(nidec(stations, bags, counts, n, i))
+    yes_no(nidec(table, order, i))
 }
 
 // Whether a station may leave.

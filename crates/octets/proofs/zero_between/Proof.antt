@@ -1,8 +1,8 @@
--- What is left decides: the bytes so far were 0.
+-- What was tested so far and what is left decide together.
 use denote.Ref.{now}
-use borrow.Author.Tests.{eq-eqb, ne-eqb}
 use borrow.Author.Needs.{needs}
 use native.Mathlib.Omega.{arith}
+use mathlib.Core.Bool.{_&&_, and-assoc, and-true}
 use mathlib.Core.Path.{_≡_, sym, _∙_}
 use Prim.Native.Nat.{_-_}
 use Rattle.octets.specs.Bytes.{part, allZero}
@@ -11,23 +11,16 @@ use Rattle.octets.proofs.zero_between.Statement.{statement}
 use Rattle.octets.proofs.zero_between.Tie as tie
 
 abbrev Inv-loop : tie.InvT-loop
-Inv-loop b from to i₀ i = allZero (part b from to) ≡ allZero (part b i to)
+Inv-loop b from to clear₀ i₀ clear i = allZero (part b from to) ≡ (clear && allZero (part b i to))
 
 abbrev μ-loop : tie.MeasureT-loop
-μ-loop b from to i₀ i = to - i
+μ-loop b from to clear₀ i₀ clear i = to - i
 
 loop-holds : tie.Need-loop-holds Inv-loop μ-loop
 loop-holds c = search needs
 
-shared-slice-read-if1 : tie.Need-shared-slice-read-if1 Inv-loop μ-loop
-shared-slice-read-if1 c = search needs
-
-returns : tie.Need-returns Inv-loop μ-loop
-returns c =
-    let at = c .before .before .before in
-    let a = at .before .args in
-    let e = zero-one (now (a .b)) (at .loop .i) (a .to) (omega arith) (omega arith) in
-    sym (at .loop .inv ∙ (rw (ne-eqb _ _ (c .if1 .taken)) at e))
+shared-slice-read-clear : tie.Need-shared-slice-read-clear Inv-loop μ-loop
+shared-slice-read-clear c = search needs
 
 add-i : tie.Need-add-i Inv-loop μ-loop
 add-i c = search needs
@@ -37,17 +30,17 @@ loop-less c = search needs
 
 loop-again : tie.Need-loop-again Inv-loop μ-loop
 loop-again c =
-    let at = c .before .before .before in
+    let at = c .before .before in
     let a = at .before .args in
     let e = zero-one (now (a .b)) (at .loop .i) (a .to) (omega arith) (omega arith) in
-    at .loop .inv ∙ (rw (eq-eqb _ _ (c .if1 .left)) at e)
+    at .loop .inv ∙ rw (e, and-assoc)
 
-returns-2 : tie.Need-returns-2 Inv-loop μ-loop
+returns : tie.Need-returns Inv-loop μ-loop
 unfolding allZero
-returns-2 c =
+returns c =
     let at = c .before in
     let a = at .before .args in
-    sym (at .loop .inv ∙ zero-none (now (a .b)) (at .loop .i) (a .to) (c .loop-test .left))
+    sym (at .loop .inv ∙ rw (zero-none (now (a .b)) (at .loop .i) (a .to) (c .loop-test .left), and-true))
 
 pub zero-between-spec : {M : Type 1} → statement M
 zero-between-spec =
@@ -56,9 +49,8 @@ zero-between-spec =
     Inv-loop
     μ-loop
     loop-holds
-    shared-slice-read-if1
-    returns
+    shared-slice-read-clear
     add-i
     loop-less
     loop-again
-    returns-2)
+    returns)

@@ -3,7 +3,6 @@ use mathlib.Core.Path.{sym, _∙_}
 use native.Mathlib.Omega.{arith}
 use lib.Seq.{length-take-le}
 use borrow.Author.Needs.{needs}
-use Rattle.bag.proofs.Laws.{length-mapped}
 use Rattle.effects.proofs.Starting.{few-blocks}
 use Rattle.questions.proofs.Asking.{numbers-rise, leave-absent, leave-found}
 use Rattle.questions.proofs.leave_of.Statement.{statement}
@@ -29,35 +28,22 @@ lookup-requires c κs = rw (c .before .read-numbers .ensures) (numbers-rise _ (c
 returns : tie.Need-returns
 returns c = leave-absent _ (c .before .before .before .before .before .before .pre) _ _ (rw (← (c .before .before .before .read-numbers .ensures)) (c .before .lookup .ensures)) (c .if1 .taken)
 
-read-stations-requires : tie.Need-read-stations-requires
-read-stations-requires c κs =
-    let s = c .before .before .before .before in
-    (few-blocks _ (s .before .before .pre), s .order .ensures)
-
-read-bags-requires : tie.Need-read-bags-requires
-read-bags-requires c κs =
-    let s = c .before .before .before .before .before in
-    ((few-blocks _ (s .before .before .pre), s .order .ensures), s .before .before .pre)
-
-read-counts-requires : tie.Need-read-counts-requires
-read-counts-requires c κs =
-    let s = c .before .before .before .before .before .before in
-    (few-blocks _ (s .before .before .pre), s .order .ensures)
-
 nidec-requires : tie.Need-nidec-requires
-nidec-requires c κs = (omega arith, few-blocks _ (c .before .before .before .before .before .before .before .before .before .pre))
+nidec-requires c κs =
+    let s = c .before .before .before .before in
+    let clean = s .before .before .pre in
+    ((few-blocks _ clean, s .order .ensures), (clean, omega arith))
 
 yes-no-requires : tie.Need-yes-no-requires
 yes-no-requires c κs = search needs
 
 returns-2 : tie.Need-returns-2
 returns-2 c =
-    let s = c .before .before .before .before .before in
+    let s = c .before .before in
     let l = s .before in
     let clean = l .before .before .before .before .before .pre in
     c .yes-no .ensures
-    ∙ leave-found _ clean _ _ (rw (← (l .before .before .read-numbers .ensures)) (l .lookup .ensures)) (s .if1 .left) _ (search length-mapped)
-    (c .before .before .before .read-bags .ensures) (c .before .before .before .before .read-stations .ensures) (c .before .before .read-counts .ensures) (c .before .nidec .ensures)
+    ∙ leave-found _ clean _ _ (rw (← (l .before .before .read-numbers .ensures)) (l .lookup .ensures)) (s .if1 .left) (c .before .nidec .ensures)
 
 pub leave-of-spec : {M : Type 1} → statement M
 leave-of-spec =
@@ -69,9 +55,6 @@ leave-of-spec =
     slice-aggregate-lookup
     lookup-requires
     returns
-    read-stations-requires
-    read-bags-requires
-    read-counts-requires
     nidec-requires
     yes-no-requires
     returns-2)
