@@ -2,8 +2,8 @@
 pub mod Positions
 pub mod Ordering
 pub mod Filling
-pub mod Lines
 pub mod Sites
+pub mod Lines
 pub mod Clean
-pub mod Rows
+pub mod Slots
 pub mod Writing

@@ -1,137 +1,88 @@
 -- The line that arrays hold (document 01, "The form each place needs"): its length, a site of it, a store and a removal.
-use Prim.Native.Nat.{ℕ, zero, suc, _+_, _-_, _≤_, _<_}
-use mathlib.Core.Path.{_≡_, refl, sym, ap, _∙_}
-use mathlib.Core.List.{List, [], _∷_, _++_}
+use Prim.Native.Nat.{ℕ, zero, suc, _-_, _≤_, _<_}
+use mathlib.Core.Path.{_≡_, refl, ap, ap₂, _∙_}
+use mathlib.Core.Logic.{_≢_}
+use mathlib.Core.List.{List, [], _∷_, map}
 use native.Mathlib.Nat.{le-of-suc-le-suc, not-suc-le-zero}
-use native.Mathlib.Numerals.{add-one}
 use native.Mathlib.Omega.{arith}
-use lib.ListN.{length, getD, take, set}
-use lib.Seq.{take-set-lt, take-suc-set, getD-take, length-take-le, set-getD, take-append-le}
+use lib.ListN.{length, getD, take, set, length-map}
+use lib.Seq.{getD-take, length-take-le, getD-set-same, getD-set-other}
 use Rattle.line.specs.declared.Message.{Message}
 use Rattle.line.specs.declared.Station as declared
 use Rattle.line.specs.Site.{Site, Line}
 use Rattle.bag.specs.Places.{removeAt}
-use Rattle.arrays.specs.Arrays.{beside, lineIn}
+use Rattle.block.specs.Said.{nobody}
+use Rattle.arrays.specs.Arrays.{siteIn, siteAt, lineIn}
+use Rattle.arrays.proofs.Sites.{map-at}
 
--- a station, a row and a count as a site
-abbrev pub siteIn : declared.Station → List Message → ℕ → Site
-siteIn s b c = record { station = s; bag = take c b }
+-- two functions that differ at one element of a list only
+map-store : {A : Type 0} (f g : ℕ → A) (l : List ℕ) (i : ℕ) (x : A) → i < length l → g (getD l i 0) ≡ x
+    → ((j : ℕ) → j < length l → j ≢ i → g (getD l j 0) ≡ f (getD l j 0)) → map g l ≡ set (map f l) i x
+map-store f g [] i x h e k = absurd (not-suc-le-zero h)
+map-store {A} f g (y ∷ l) zero x h e k = ap₂ (λ (a : A) (r : List A). a ∷ r) e (same l (λ j p. k (suc j) (omega arith) (λ q. omega arith)))
+  where
+    same : (l : List ℕ) → ((j : ℕ) → j < length l → g (getD l j 0) ≡ f (getD l j 0)) → map g l ≡ map f l
+    same [] k = refl
+    same (z ∷ l) k = ap₂ (λ (a : A) (r : List A). a ∷ r) (k 0 (omega arith)) (same l (λ j p. k (suc j) (omega arith)))
+map-store {A} f g (y ∷ l) (suc i) x h e k =
+    ap₂ (λ (a : A) (r : List A). a ∷ r) (k 0 (omega arith) (λ q. omega arith)) (map-store f g l i x (le-of-suc-le-suc h) e (λ j p q. k (suc j) (omega arith) (λ r. q (omega arith))))
 
-beside-long : (n : ℕ) (stations : List declared.Station) (bags : List (List Message)) (counts : List ℕ)
-    → n ≤ length stations → n ≤ length bags → n ≤ length counts → n ≤ length (beside stations bags counts)
-unfolding beside
-beside-long zero stations bags counts h k l = omega arith
-beside-long (suc n) [] bags counts h k l = h
-beside-long (suc n) (s ∷ stations) [] counts h k l = k
-beside-long (suc n) (s ∷ stations) (b ∷ bags) [] h k l = l
-beside-long (suc n) (s ∷ stations) (b ∷ bags) (c ∷ counts) h k l = omega (arith, beside-long n stations bags counts (le-of-suc-le-suc h) (le-of-suc-le-suc k) (le-of-suc-le-suc l))
-
-beside-at : (stations : List declared.Station) (bags : List (List Message)) (counts : List ℕ) (i : ℕ) (d : declared.Station) (e : List Message) (x : Site)
-    → i < length stations → i < length bags → i < length counts → getD (beside stations bags counts) i x ≡ siteIn (getD stations i d) (getD bags i e) (getD counts i 0)
-unfolding beside
-beside-at [] bags counts i d e x h k l = absurd (not-suc-le-zero h)
-beside-at (s ∷ stations) [] counts i d e x h k l = absurd (not-suc-le-zero k)
-beside-at (s ∷ stations) (b ∷ bags) [] i d e x h k l = absurd (not-suc-le-zero l)
-beside-at (s ∷ stations) (b ∷ bags) (c ∷ counts) zero d e x h k l = refl
-beside-at (s ∷ stations) (b ∷ bags) (c ∷ counts) (suc i) d e x h k l = beside-at stations bags counts i d e x (le-of-suc-le-suc h) (le-of-suc-le-suc k) (le-of-suc-le-suc l)
-
-beside-set : (stations : List declared.Station) (bags : List (List Message)) (counts : List ℕ) (i : ℕ) (s : declared.Station) (b : List Message) (c : ℕ)
-    → beside (set stations i s) (set bags i b) (set counts i c) ≡ set (beside stations bags counts) i (siteIn s b c)
-unfolding beside
-beside-set [] bags counts i s b c = refl
-beside-set (z ∷ stations) [] counts zero s b c = refl
-beside-set (z ∷ stations) [] counts (suc i) s b c = refl
-beside-set (z ∷ stations) (y ∷ bags) [] zero s b c = refl
-beside-set (z ∷ stations) (y ∷ bags) [] (suc i) s b c = refl
-beside-set (z ∷ stations) (y ∷ bags) (x ∷ counts) zero s b c = refl
-beside-set (z ∷ stations) (y ∷ bags) (x ∷ counts) (suc i) s b c = ap (λ (l : Line). siteIn z y x ∷ l) (beside-set stations bags counts i s b c)
-
-take-beside : (n : ℕ) (stations : List declared.Station) (bags : List (List Message)) (counts : List ℕ)
-    → take n (beside stations bags counts) ≡ beside (take n stations) (take n bags) (take n counts)
-unfolding beside
-take-beside zero stations bags counts = refl
-take-beside (suc n) [] bags counts = refl
-take-beside (suc n) (s ∷ stations) [] counts = refl
-take-beside (suc n) (s ∷ stations) (b ∷ bags) [] = refl
-take-beside (suc n) (s ∷ stations) (b ∷ bags) (c ∷ counts) = ap (λ (l : Line). siteIn s b c ∷ l) (take-beside n stations bags counts)
-
-remove-beside : (i : ℕ) (stations : List declared.Station) (bags : List (List Message)) (counts : List ℕ) → length stations ≡ length bags → length stations ≡ length counts
-    → beside (removeAt i stations) (removeAt i bags) (removeAt i counts) ≡ removeAt i (beside stations bags counts)
-unfolding beside removeAt
-remove-beside zero [] bags counts e h = refl
-remove-beside (suc i) [] bags counts e h = refl
-remove-beside i (s ∷ stations) [] counts e h = absurd (omega arith)
-remove-beside i (s ∷ stations) (b ∷ bags) [] e h = absurd (omega arith)
-remove-beside zero (s ∷ stations) (b ∷ bags) (c ∷ counts) e h = refl
-remove-beside (suc i) (s ∷ stations) (b ∷ bags) (c ∷ counts) e h = ap (λ (l : Line). siteIn s b c ∷ l) (remove-beside i stations bags counts (omega arith) (omega arith))
-
--- a list shifted down from i, with anything at its end, is without the element at i
-shifted-list : {A : Type 0} (l : List A) (i m : ℕ) (x : A) → i ≤ m → m < length l → take m (removeAt i l ++ (x ∷ [])) ≡ removeAt i (take (suc m) l)
+pub map-remove : {A B : Type 0} (f : A → B) (l : List A) (i : ℕ) → map f (removeAt i l) ≡ removeAt i (map f l)
 unfolding removeAt
-shifted-list [] i m x h k = absurd (not-suc-le-zero k)
-shifted-list (y ∷ l) zero m x h k = take-append-le m l (x ∷ []) (le-of-suc-le-suc k)
-shifted-list (y ∷ l) (suc i) zero x h k = absurd (not-suc-le-zero h)
-shifted-list {A} (y ∷ l) (suc i) (suc m) x h k = ap (λ (r : List A). y ∷ r) (shifted-list l i m x (le-of-suc-le-suc h) (le-of-suc-le-suc k))
+map-remove f [] zero = refl
+map-remove f [] (suc i) = refl
+map-remove f (y ∷ l) zero = refl
+map-remove {A} {B} f (y ∷ l) (suc i) = ap (λ (r : List B). f y ∷ r) (map-remove f l i)
 
-shifted : {A : Type 0} (l : List A) (i n : ℕ) (x : A) → i < n → n ≤ length l → take (n - 1) (removeAt i l ++ (x ∷ [])) ≡ removeAt i (take n l)
-shifted l i n x h k =
-    let e : suc (n - 1) ≡ n = omega arith in
-    shifted-list l i (n - 1) x (omega arith) (omega arith) ∙ rw e
+-- the slot of place i is that of no other place
+abbrev pub Alone : ℕ → List ℕ → ℕ → Type 0
+Alone n slots i = (j : ℕ) → j < n → j ≢ i → getD slots j 0 ≢ getD slots i 0
 
-module _ (n : ℕ) (stations : List declared.Station) (bags : List (List Message)) (counts : List ℕ) where
-  -- a store of a station, a row and a count
-  pub line-set : (i : ℕ) (s : declared.Station) (b : List Message) (c : ℕ) → i < n
-      → lineIn n (set stations i s) (set bags i b) (set counts i c) ≡ set (lineIn n stations bags counts) i (siteIn s b c)
+module _ (n : ℕ) (slots : List ℕ) (long : n ≤ length slots) (stations : List declared.Station) (bags : List (List Message)) (counts : List ℕ) where
+  abbrev line : Line
+  line = lineIn n slots stations bags counts
+
+  size : length (take n slots) ≡ n
+  size = length-take-le n slots long
+
+  pub line-length : length line ≡ n
   unfolding lineIn
-  line-set i s b c h = ap (take n) (beside-set stations bags counts i s b c) ∙ take-set-lt n (beside stations bags counts) i (siteIn s b c) h
+  line-length = length-map (take n slots) (siteAt stations bags counts) ∙ size
 
-  -- a store of a row and a count
-  pub line-mail : (i : ℕ) (d : declared.Station) (b : List Message) (c : ℕ) → i < n
-      → lineIn n stations (set bags i b) (set counts i c) ≡ set (lineIn n stations bags counts) i (siteIn (getD stations i d) b c)
-  line-mail i d b c h =
-      ap (λ (l : List declared.Station). lineIn n l (set bags i b) (set counts i c)) (sym (set-getD stations i d)) ∙ line-set i (getD stations i d) b c h
-
-  -- one site more, with a row that is stored for it; and with the row that stands there
-  pub line-stored : (d : declared.Station) (b : List Message) → n < length stations → n < length bags → n < length counts
-      → lineIn (n + 1) stations (set bags n b) counts ≡ lineIn n stations bags counts ++ (siteIn (getD stations n d) b (getD counts n 0) ∷ [])
+  -- without place i
+  pub line-without : (i : ℕ) (slots′ : List ℕ) → take (n - 1) slots′ ≡ removeAt i (take n slots) → lineIn (n - 1) slots′ stations bags counts ≡ removeAt i line
   unfolding lineIn
-  line-stored d b h k l =
-      let x = siteIn (getD stations n d) b (getD counts n 0) in
-      let e : beside stations (set bags n b) counts ≡ set (beside stations bags counts) n x =
-      rw (set-getD stations n d, set-getD counts n 0) at (beside-set stations bags counts n (getD stations n d) b (getD counts n 0)) in
-      let long = beside-long (n + 1) stations bags counts (omega arith) (omega arith) (omega arith) in
-      ap (take (n + 1)) e ∙ ap (λ (m : ℕ). take m (set (beside stations bags counts) n x)) (add-one n) ∙ take-suc-set (beside stations bags counts) n x (omega arith)
+  line-without i slots′ e = ap (map (siteAt stations bags counts)) e ∙ map-remove (siteAt stations bags counts) (take n slots) i
 
-  pub line-more : (d : declared.Station) (e : List Message) → n < length stations → n < length bags → n < length counts
-      → lineIn (n + 1) stations bags counts ≡ lineIn n stations bags counts ++ (siteIn (getD stations n d) (getD bags n e) (getD counts n 0) ∷ [])
-  line-more d e h k l = rw (set-getD bags n e) at (line-stored d (getD bags n e) h k l)
+  module _ (i : ℕ) (h : i < n) where
+    abbrev slot : ℕ
+    slot = getD slots i 0
 
-  module _ (s : n ≤ length stations) (b : n ≤ length bags) (c : n ≤ length counts) where
-    pub line-length : length (lineIn n stations bags counts) ≡ n
+    -- the site at place i
+    pub line-get : (x : Site) → getD line i x ≡ siteAt stations bags counts slot
     unfolding lineIn
-    line-length = length-take-le n (beside stations bags counts) (beside-long n stations bags counts s b c)
+    line-get x = map-at (siteAt stations bags counts) (take n slots) i 0 x (omega (arith, size)) ∙ ap (siteAt stations bags counts) (getD-take n slots i 0 h)
 
-    -- a site
-    pub line-get : (i : ℕ) (d : declared.Station) (e : List Message) (x : Site) → i < n
-        → getD (lineIn n stations bags counts) i x ≡ siteIn (getD stations i d) (getD bags i e) (getD counts i 0)
+    stored : (f : ℕ → Site) (x : Site) → f slot ≡ x → ((j : ℕ) → j < n → j ≢ i → f (getD slots j 0) ≡ siteAt stations bags counts (getD slots j 0))
+        → map f (take n slots) ≡ set line i x
     unfolding lineIn
-    line-get i d e x h = getD-take n (beside stations bags counts) i x h ∙ beside-at stations bags counts i d e x (omega arith) (omega arith) (omega arith)
+    stored f x e k =
+        map-store (siteAt stations bags counts) f (take n slots) i x (omega (arith, size)) (ap f (getD-take n slots i 0 h) ∙ e)
+        (λ j p q. let r : j < n = omega (arith, size) in rw (getD-take n slots j 0 r) (k j r q))
 
-    -- arrays whose first n - 1 places are the first n without place i
-    pub line-without : (i : ℕ) (stations′ : List declared.Station) (bags′ : List (List Message)) (counts′ : List ℕ)
-        → take (n - 1) stations′ ≡ removeAt i (take n stations) → take (n - 1) bags′ ≡ removeAt i (take n bags) → take (n - 1) counts′ ≡ removeAt i (take n counts)
-        → lineIn (n - 1) stations′ bags′ counts′ ≡ removeAt i (lineIn n stations bags counts)
-    unfolding lineIn
-    line-without i stations′ bags′ counts′ p q r =
-        let s′ : length (take n stations) ≡ n = length-take-le n stations s in
-        let b′ : length (take n bags) ≡ n = length-take-le n bags b in
-        let c′ : length (take n counts) ≡ n = length-take-le n counts c in
-        take-beside (n - 1) stations′ bags′ counts′ ∙ rw (p, q, r) (remove-beside i (take n stations) (take n bags) (take n counts) (s′ ∙ sym b′) (s′ ∙ sym c′))
-        ∙ ap (removeAt i) (sym (take-beside n stations bags counts))
+    -- a store of a row and a count, and of a station too
+    module _ (alone : Alone n slots i) (b : slot < length bags) (c : slot < length counts) (row : List Message) (m : ℕ) where
+      pub line-mail : lineIn n slots stations (set bags slot row) (set counts slot m) ≡ set line i (siteIn (getD stations slot (nobody .station)) row m)
+      unfolding lineIn
+      line-mail =
+          stored (siteAt stations (set bags slot row) (set counts slot m)) (siteIn (getD stations slot (nobody .station)) row m)
+          (rw (getD-set-same bags slot row [] b, getD-set-same counts slot m 0 c))
+          (λ j p q. rw (getD-set-other bags slot (getD slots j 0) row [] (alone j p q), getD-set-other counts slot (getD slots j 0) m 0 (alone j p q)))
 
-    -- arrays shifted down from i
-    pub line-remove : (i : ℕ) (u : declared.Station) (v : List Message) (w : ℕ) → i < n
-        → lineIn (n - 1) (removeAt i stations ++ (u ∷ [])) (removeAt i bags ++ (v ∷ [])) (removeAt i counts ++ (w ∷ [])) ≡ removeAt i (lineIn n stations bags counts)
-    line-remove i u v w h =
-        line-without i (removeAt i stations ++ (u ∷ [])) (removeAt i bags ++ (v ∷ [])) (removeAt i counts ++ (w ∷ [])) (shifted stations i n u h s) (shifted bags i n v h b)
-        (shifted counts i n w h c)
+      pub line-set : slot < length stations → (s : declared.Station)
+          → lineIn n slots (set stations slot s) (set bags slot row) (set counts slot m) ≡ set line i (siteIn s row m)
+      unfolding lineIn
+      line-set a s =
+          stored (siteAt (set stations slot s) (set bags slot row) (set counts slot m)) (siteIn s row m)
+          (rw (getD-set-same stations slot s (nobody .station) a, getD-set-same bags slot row [] b, getD-set-same counts slot m 0 c))
+          (λ j p q. rw (getD-set-other stations slot (getD slots j 0) s (nobody .station) (alone j p q), getD-set-other bags slot (getD slots j 0) row [] (alone j p q), getD-set-other counts slot (getD slots j 0) m 0 (alone j p q)))

@@ -1,6 +1,6 @@
 -- Searching and counting in the first n elements of an array from the front, and what the first place that passes is good for.
 use mathlib.Core.Path.{_≡_, refl, sym, ap, _∙_}
-use mathlib.Core.Bool.{Bool, true, false, not, cond, _||_}
+use mathlib.Core.Bool.{Bool, true, false, cond, _||_}
 use mathlib.Core.List.{List, [], _∷_}
 use Prim.Native.Nat.{ℕ, suc, _+_, _≤_, _<_, min}
 use native.Mathlib.Numerals.{add-one}
@@ -9,11 +9,11 @@ use lib.Dec.{ltb, leb·suc-suc}
 use borrow.Author.Tests.{lt-ltb}
 use lib.ListN.{length, getD, take, drop, length-take, drop-of-length-le}
 use lib.Seq.{length-take-le, getD-take, drop-cons}
-use Rattle.line.specs.Lists.{any, count, insert, removeFirst}
-use Rattle.bag.specs.Places.{insertAt, removeAt, firstAt}
+use Rattle.line.specs.Lists.{any, count, removeFirst}
+use Rattle.bag.specs.Places.{removeAt, firstAt}
 
 module _ {A : Type 0} where
-  rest-cons : (n : ℕ) (a : List A) (i : ℕ) (d : A) → i < n → n ≤ length a
+  pub rest-cons : (n : ℕ) (a : List A) (i : ℕ) (d : A) → i < n → n ≤ length a
       → drop i (take n a) ≡ getD a i d ∷ drop (i + 1) (take n a)
   rest-cons n a i d h k =
       let e : length (take n a) ≡ n = length-take-le n a k in
@@ -58,15 +58,6 @@ module _ {A : Type 0} (f : A → Bool) (n : ℕ) (a : List A) (i : ℕ) where
   counted-all s t h = rw (t, rest-none n a i h) (omega arith)
 
 module _ {A : Type 0} (f : A → Bool) where
-  pub first-le : (l : List A) → firstAt f l ≤ length l
-  unfolding firstAt
-  first-le [] = omega arith
-  first-le (x ∷ l) = go (f x) (first-le l)
-    where
-      go : (b : Bool) → firstAt f l ≤ length l → cond b 0 (suc (firstAt f l)) ≤ suc (length l)
-      go true r = omega arith
-      go false r = omega arith
-
   -- one passes exactly when there is a first
   pub any-first : (l : List A) → any f l ≡ ltb (firstAt f l) (length l)
   unfolding firstAt any
@@ -97,15 +88,3 @@ module _ {A : Type 0} (f : A → Bool) where
           → cond b l (x ∷ removeFirst f l) ≡ x ∷ l
       go true r h = absurd (omega arith)
       go false r h = ap (λ (t : List A). x ∷ t) (r (omega arith))
-
--- an insertion in order goes in front of the first that is not before it
-pub insert-first : {A : Type 0} (before : A → A → Bool) (y : A) (l : List A)
-    → insertAt (firstAt (λ (x : A). not (before x y)) l) y l ≡ insert before y l
-unfolding firstAt insert insertAt
-insert-first before y [] = refl
-insert-first {A} before y (x ∷ l) = go (before x y) (insert-first before y l)
-  where
-    go : (b : Bool) → insertAt (firstAt (λ (z : A). not (before z y)) l) y l ≡ insert before y l
-        → insertAt (cond (not b) 0 (suc (firstAt (λ (z : A). not (before z y)) l))) y (x ∷ l) ≡ cond b (x ∷ insert before y l) (y ∷ x ∷ l)
-    go true r = ap (λ (t : List A). x ∷ t) r
-    go false r = refl

@@ -1,19 +1,15 @@
--- What callers may cite: a bag that is written out, the room in it, and that its size says which places count.
+-- What callers may cite: the room in a bag, and that its size says which places count.
 use mathlib.Core.Path.{_≡_, refl, sym, _∙_}
 use mathlib.Core.List.{List, [], _∷_, map}
 use Prim.Native.Nat.{ℕ, zero, suc, _≤_, min}
 use native.Mathlib.Omega.{arith}
 use lib.ListN.{length, length-map, length-take, take}
-use Rattle.line.specs.declared.Message.{Message}
 use Rattle.bag.specs.declared.Bag.{Bag}
 use Rattle.bag.specs.Held.{held}
 
 -- owning an array of messages tells the length of its list, but says it of what the machine holds for each: f is that reading
 pub length-mapped : (X Y : Type 0) (f : X → Y) (l : List X) (n : ℕ) → length (map f l) ≡ n → length l ≡ n
 length-mapped X Y f l n p = sym (length-map l f) ∙ p
-
-pub held-literal : (a : List Message) (n : ℕ) → held (record { messages = a; count = n }) ≡ take n a
-held-literal a n = refl
 
 pub held-length : (b : Bag) → length (b .messages) ≡ 32 → length (held b) ≡ min (b .count) 32
 held-length b e = length-take (b .count) (b .messages) ∙ rw e

@@ -1,5 +1,7 @@
 -- What the proofs of the bag share, and what callers may cite of it.
 pub mod Laws
-pub mod Keys
-pub mod Shifts
 pub mod Firsts
+pub mod Keys
+pub mod Orders
+pub mod Placing
+pub mod Shifts

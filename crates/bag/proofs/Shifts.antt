@@ -1,39 +1,15 @@
--- Shifting the first n elements of an array by one place, up or down, one store at a time.
-use mathlib.Core.Path.{_≡_, refl, sym, ap, _∙_}
-use mathlib.Core.List.{List, [], _∷_, _++_}
-use Prim.Native.Nat.{ℕ, zero, suc, _+_, _≤_, _<_}
+-- Shifting the first n elements of an array down by one place, one store at a time.
+use mathlib.Core.Path.{_≡_, refl, ap, _∙_}
+use mathlib.Core.List.{List, [], _∷_}
+use Prim.Native.Nat.{ℕ, zero, suc, _+_, _<_}
 use native.Mathlib.Nat.{le-of-suc-le-suc, not-suc-le-zero}
 use native.Mathlib.Numerals.{add-one}
 use native.Mathlib.Omega.{arith}
 use lib.ListN.{length, getD, take, set}
-use lib.Seq.{take-take, take-suc-set, take-set-lt, length-take-le, getD-take}
-use Rattle.bag.specs.Places.{insertAt, removeAt}
+use lib.Seq.{take-take, take-set-lt, length-take-le, getD-take}
+use Rattle.bag.specs.Places.{removeAt}
 
 module _ {A : Type 0} where
-  up-list : (l : List A) (i : ℕ) (x d : A) → i < length l → insertAt i x l ≡ insertAt (suc i) (getD l i d) (set l i x)
-  unfolding insertAt
-  up-list [] i x d h = absurd (not-suc-le-zero h)
-  up-list (y ∷ l) zero x d h = refl
-  up-list (y ∷ l) (suc i) x d h = ap (λ (r : List A). y ∷ r) (up-list l i x d (le-of-suc-le-suc h))
-
-  -- a turn of the shift up: x is stored at i, and what stood there goes to the next place
-  pub up : (n : ℕ) (a : List A) (i : ℕ) (x d : A) → i < n → n ≤ length a
-      → insertAt i x (take n a) ≡ insertAt (i + 1) (getD a i d) (take n (set a i x))
-  up n a i x d h k =
-      let e : length (take n a) ≡ n = length-take-le n a k in
-      up-list (take n a) i x d (omega arith) ∙ rw (getD-take, take-set-lt, add-one)
-
-  up-list-end : (l : List A) (x : A) → insertAt (length l) x l ≡ l ++ x ∷ []
-  unfolding insertAt
-  up-list-end [] x = refl
-  up-list-end (y ∷ l) x = ap (λ (r : List A). y ∷ r) (up-list-end l x)
-
-  -- the store after the last turn
-  pub up-end : (n : ℕ) (a : List A) (x : A) → n < length a → insertAt n x (take n a) ≡ take (n + 1) (set a n x)
-  up-end n a x h =
-      let e : length (take n a) ≡ n = length-take-le n a (omega arith) in
-      ap (λ (k : ℕ). insertAt k x (take n a)) (sym e) ∙ up-list-end (take n a) x ∙ rw (add-one, take-suc-set)
-
   down-list : (l : List A) (i : ℕ) (d : A) → suc i < length l → removeAt i l ≡ removeAt (suc i) (set l i (getD l (suc i) d))
   unfolding removeAt
   down-list [] i d h = absurd (not-suc-le-zero h)

@@ -6,15 +6,15 @@ use Rattle.line.specs.declared.Message.{Message}
 use Rattle.line.specs.Message.{holds, remove, put}
 use Rattle.bag.specs.declared.Bag.{Bag}
 use Rattle.bag.specs.declared.Taken.{Taken}
-use Rattle.bag.specs.Held.{held}
+use Rattle.bag.specs.Held.{held, ordered}
 
--- r is b with one m more, in written order
+-- r is b with one m more
 pub record Put (b : Bag) (m : Message) (r : Bag) : Type 0 where
-  pub held-is : held r ≡ put m (held b)
+  pub ordered-is : ordered r ≡ put m (ordered b)
   pub counted : r .count ≡ b .count + 1
 
 -- r says whether b holds m, and is b without one copy
 pub record Took (b : Bag) (m : Message) (r : Taken) : Type 0 where
-  pub found-is : r .found ≡ holds m (held b)
-  pub held-is : held (r .bag) ≡ remove m (held b)
+  pub found-is : r .found ≡ holds m (ordered b)
+  pub ordered-is : ordered (r .bag) ≡ remove m (ordered b)
   pub counted : r .bag .count ≡ length (held (r .bag))

@@ -1,12 +1,8 @@
--- An element put into a list or taken out by its place, and the first place that passes a test.
+-- An element taken out of a list by its place, and the first place that passes a test.
 use Prim.Native.Nat.{ℕ, suc}
 use mathlib.Core.Bool.{Bool, cond}
 use mathlib.Core.List.{List, [], _∷_, _++_}
 use lib.ListN.{take, drop}
-
--- x stands at i, and what stood from there on follows
-unfoldable pub insertAt : {A : Type 0} → ℕ → A → List A → List A
-insertAt i x l = take i l ++ x ∷ drop i l
 
 -- without the element at i
 unfoldable pub removeAt : {A : Type 0} → ℕ → List A → List A

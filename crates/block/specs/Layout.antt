@@ -73,6 +73,13 @@ unfoldable pub messages : List ℕ → ℕ → List Message
 messages b zero = []
 messages b (suc n) = messages b n ++ (messageOf (placeAt b n) ∷ [])
 
+-- the 32 places of a row: the counted messages in stored order, then remove-left
+abbrev pub blank : Message
+blank = record { content = RemoveLeft }
+
+unfoldable pub rowOf : List ℕ → List Message
+rowOf b = messages b (word b 16) ++ replicate (32 - word b 16) blank
+
 -- all fields are inside the layout; "Places from the count on are all zero."
 unfoldable pub fieldsHold : List ℕ → Bool
 fieldsHold b =

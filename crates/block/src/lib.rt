@@ -6,6 +6,7 @@ pub mod writing;
 
 use bag::Bag;
 use fields::fields_hold;
+use line::Content;
 use line::Message;
 use line::Neighbour;
 use line::Station;
@@ -20,11 +21,8 @@ ghost use mathlib.Core.Path.{_≡_};
 ghost use mathlib.Core.Bool.{cond};
 ghost use Prim.Native.Nat.{_≤_};
 ghost use lib.ListN.{length};
-ghost use Rattle.line.specs.Lists.{sort};
-ghost use Rattle.line.specs.Message.{precedes};
-ghost use Rattle.bag.specs.Held.{held};
 ghost use Rattle.octets.specs.Bytes.{word};
-ghost use Rattle.block.specs.Layout.{checkHolds, messages, faultOf};
+ghost use Rattle.block.specs.Layout.{checkHolds, rowOf, faultOf};
 ghost use Rattle.block.specs.Said.{ReadAs, nobody};
 
 // What a message place holds.
@@ -74,21 +72,23 @@ pub fn fault_of(b: &[u8]) -> u32
     first_fault(check, fields, sides)
 }
 
-// The messages of the counted places in written order. They are put from the last place to the first, so that each turn is one
-// clause of the sorting.
+// The messages of the counted places, as they are stored.
 pub fn bag_of(b: &[u8]) -> Bag
     requires { ⌜ (length (now b) ≡ 512) × (word (now b) 16 ≤ 32) ⌝ }
-    ensures { λ r. ⌜ (held r ≡ sort precedes (messages (now (b .entry)) (word (now (b .entry)) 16))) × (r .count ≡ word (now (b .entry)) 16) ⌝ }
+    ensures { λ r. ⌜ (r .messages ≡ rowOf (now (b .entry))) × (r .count ≡ word (now (b .entry)) 16) ⌝ }
 {
     let n = word_at(b, 16) as usize;
-    let mut bag = Bag::empty();
-    let mut i = n;
-    while 0 < i {
-        i -= 1;
-        let next = bag.put(message_of(place_at(b, i)));
-        bag = next;
+    let blank = Message {
+        content: Content::RemoveLeft,
+    };
+    let mut messages = [blank; 32];
+    let mut i = 0;
+    while i < n {
+        let message = message_of(place_at(b, i));
+        messages[i] = message;
+        i += 1;
     }
-    bag
+    Bag { messages, count: n }
 }
 
 // The station of a block that is not accepted.
@@ -118,7 +118,7 @@ pub fn read_block(b: &[u8]) -> Read
         };
     }
     let station = station_of(b);
-    let bag = bag_of(b);
+    let bag = bag_of(b).in_order();
     Read {
         fault: 0,
         station,

@@ -1,6 +1,7 @@
 // Writing a block: every byte of it, the check word last (document 01, "The block").
 use bag::Bag;
-use line::Content;
+use bag::carried;
+use bag::kind;
 use line::Message;
 use line::Neighbour;
 use line::Station;
@@ -12,7 +13,6 @@ ghost use mathlib.Core.Path.{_≡_};
 ghost use mathlib.Core.List.{_++_};
 ghost use Prim.Native.Nat.{_+_, _-_, _%_, _≤_};
 ghost use lib.ListN.{length};
-ghost use Rattle.line.specs.Message as message;
 ghost use Rattle.bag.specs.Held.{held};
 ghost use Rattle.octets.specs.Bytes.{le16, le32, sumWords, overwrite};
 ghost use Rattle.block.specs.Layout.{neighbourNumber, flags, placeBytes, placesBytes, header, encode};
@@ -34,35 +34,13 @@ fn flags_of(leaving: bool) -> u16
     if leaving { 1 } else { 0 }
 }
 
-// "a kind (2 bytes: 1 introduction, 2 remove-left, 3 remove-right)"
-fn kind_of(content: Content) -> u16
-    ensures { λ r. ⌜ r ≡ message.kind content ⌝ }
-{
-    match content {
-        Content::Introduction(_) => 1,
-        Content::RemoveLeft => 2,
-        Content::RemoveRight => 3,
-    }
-}
-
-// "a number (4 bytes: 1 to 999,999 for kind 1, 0 for kinds 2 and 3)"
-fn carried(content: Content) -> u32
-    ensures { λ r. ⌜ r ≡ message.carried content ⌝ }
-{
-    match content {
-        Content::Introduction(n) => n,
-        Content::RemoveLeft => 0,
-        Content::RemoveRight => 0,
-    }
-}
-
 // One message place.
 fn write_place(room: &mut [u8], at: usize, m: Message)
     requires { ⌜ at + 8 ≤ length (now room) ⌝ }
     ensures { λ _. ⌜ now (room .exit) ≡ overwrite at (placeBytes m) (now (room .entry)) ⌝ }
 {
     let content = m.content;
-    write_word(room, at, kind_of(content));
+    write_word(room, at, kind(content));
     write_word(room, at + 2, 0);
     write_quad(room, at + 4, carried(content));
 }

@@ -23,11 +23,12 @@ use Rattle.table.specs.Blocks.{range, lineOf}
 use Rattle.table.specs.Fault.{faultOf}
 use Rattle.table.proofs.NumberLaws.{found-member}
 use Rattle.arrays.specs.Arrays.{lineIn}
-use Rattle.arrays.specs.Order.{stationsOf, countsOf, numbersOf}
+use Rattle.arrays.specs.Order.{stationsOf, bagsOf, countsOf, numbersOf}
 use Rattle.moves.specs.Steps.{stepAt, stepsOf}
 use Rattle.effects.proofs.OnePlace.{find-nowhere}
 use Rattle.effects.proofs.Stores.{Kept}
-use Rattle.effects.proofs.Starting.{starts-kept}
+use Rattle.arrays.proofs.Slots.{line-of-table}
+use Rattle.effects.proofs.Starting.{few-blocks, starts-kept}
 
 -- k steps were done before
 unfoldable pub ahead : ℕ → Run → Run
@@ -38,12 +39,12 @@ abbrev pub stepsFrom : List ℕ → ℕ → ℕ → List Reading
 stepsFrom l k m = map (stepAt l) (range k m)
 
 -- k of all steps are done, and the arrays hold what they left: the whole run is what is left to do, k steps ahead
-pub record Going (table steps : List ℕ) (total n : ℕ) (ns : List ℕ) (stations : List declared.Station) (bags : List (List Message)) (counts : List ℕ) (answer k : ℕ) : Type 0 where
+pub record Going (table steps : List ℕ) (total n : ℕ) (ns slots : List ℕ) (stations : List declared.Station) (bags : List (List Message)) (counts : List ℕ) (answer k : ℕ) : Type 0 where
   pub within : k ≤ total
   pub fewer : n ≤ length table / 512
   pub fresh : answer ≡ 0
-  pub kept : Kept n ns stations bags counts
-  pub same : run (lineOf table) (stepsOf steps) ≡ ahead k (run (lineIn n stations bags counts) (stepsFrom steps k (total - k)))
+  pub kept : Kept n ns slots stations bags counts
+  pub same : run (lineOf table) (stepsOf steps) ≡ ahead k (run (lineIn n slots stations bags counts) (stepsFrom steps k (total - k)))
 
 -- r ended after k steps with this number, and left this line
 pub record Halted (r : Run) (answer k : ℕ) (left : Line) : Type 0 where
@@ -89,23 +90,24 @@ module _ (line : Line) (steps : List ℕ) (k total : ℕ) where
       same ∙ ap (ahead k) (tries h (done after) e) ∙ ap (λ (j : ℕ). record { ending = t .ending; steps = j; line = t .line }) (let z : k + suc (t .steps) ≡ k + 1 + t .steps = omega arith in z)
 
 -- no station has the number of the step
-pub absent-step : {n : ℕ} {ns : List ℕ} {stations : List declared.Station} {bags : List (List Message)} {counts : List ℕ} → Kept n ns stations bags counts
-    → (x : Step) (i : ℕ) → i ≡ firstAt (eqb (x .station)) (take n ns) → n ≤ i → step (lineIn n stations bags counts) x ≡ refused Absent
+pub absent-step : {n : ℕ} {ns slots : List ℕ} {stations : List declared.Station} {bags : List (List Message)} {counts : List ℕ} → Kept n ns slots stations bags counts
+    → (x : Step) (i : ℕ) → i ≡ firstAt (eqb (x .station)) (take n ns) → n ≤ i → step (lineIn n slots stations bags counts) x ≡ refused Absent
 unfolding step _>>=_
-absent-step {n} {ns} {stations} {bags} {counts} k x i e h =
-    let line = lineIn n stations bags counts in
+absent-step {n} {ns} {slots} {stations} {bags} {counts} k x i e h =
+    let line = lineIn n slots stations bags counts in
     let size : length (take n ns) ≡ n = length-take-le n ns (omega (arith, k .tidy .few, k .tidy .numbers-size)) in
     let nowhere : Present line (x .station) → ⊥ = λ m. omega (arith, found-member (take n ns) (x .station) .1 (rw (k .tidy .numbered) m), size, e, h) in
     rw (find-nowhere (x .station) line nowhere)
 
 -- a run over an accepted table begins
-pub starts-going : (t steps : List ℕ) → faultOf t ≡ 0 → {ns : List ℕ} {stations : List declared.Station} (bags : List (List Message)) {counts : List ℕ}
-    → ns ≡ numbersOf t → stations ≡ stationsOf t → length bags ≡ 64 → lineIn (length t / 512) (stationsOf t) bags (countsOf t) ≡ lineOf t → counts ≡ countsOf t
-    → Going t steps (length steps / 12) (length t / 512) ns stations bags counts 0 0
-starts-going t steps clean bags p q rows is r = record {
+pub starts-going : (t steps : List ℕ) → faultOf t ≡ 0
+    → {ns slots : List ℕ} {stations : List declared.Station} {bags : List (List Message)} {counts : List ℕ}
+    → ns ≡ numbersOf t → slots ≡ range 0 64 → stations ≡ stationsOf t → bags ≡ bagsOf t → counts ≡ countsOf t
+    → Going t steps (length steps / 12) (length t / 512) ns slots stations bags counts 0 0
+starts-going t steps clean p q r u v = record {
   within = omega arith;
   fewer = omega arith;
   fresh = refl;
-  kept = rw (p, q, r) (starts-kept t clean bags rows is);
-  same = rw (q, r, is) (starts (lineOf t) steps);
+  kept = rw (p, q, r, u, v) (starts-kept t clean);
+  same = rw (q, r, u, v, line-of-table t (few-blocks t clean)) (starts (lineOf t) steps);
 }

@@ -3,6 +3,7 @@ pub mod OnePlace
 pub mod Posting
 pub mod Working
 pub mod Stores
+pub mod Asked
 pub mod Effects
 pub mod Starting
 pub mod Going

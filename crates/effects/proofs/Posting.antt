@@ -16,7 +16,6 @@ use Rattle.line.specs.Act.{Send}
 use Rattle.line.specs.Step.{change, without, receive, sendAll, hasRoom}
 use Rattle.line.specs.Claims.{Apart}
 use Rattle.line.proofs.Whole.{change-other, changed-numbers, receive-number}
-use Rattle.bag.specs.declared.Bag.{Bag}
 use Rattle.bag.specs.Places.{firstAt}
 use Rattle.block.specs.Said.{nobody}
 use Rattle.table.proofs.NumberLaws.{found-member, found-there}
@@ -24,7 +23,7 @@ use Rattle.arrays.proofs.Sites.{map-at}
 use Rattle.rules.specs.declared.Sending.{Sending}
 use Rattle.rules.specs.declared.Sending.the-variants.{Nothing, To}
 use Rattle.rules.specs.Decided.{sent}
-use Rattle.moves.specs.Sends.{receiverOf, roomFor, arrived}
+use Rattle.moves.specs.Sends.{receiverOf, roomFor}
 use Rattle.effects.proofs.OnePlace.{and-true, change-at, room-at, without-change}
 
 -- the site at a place, and the line with another bag there
@@ -37,6 +36,11 @@ withBag line a b = set line a (record { station = (place line a) .station; bag =
 -- another bag leaves the numbers as they are
 pub bag-numbers : (line : Line) (a : ℕ) (b : List Message) → numbers (withBag line a b) ≡ numbers line
 bag-numbers line a b = map-set-same number line a (record { station = (place line a) .station; bag = b }) nobody refl
+
+-- the messages at the receiver's place: one more, or where nothing is sent as they were
+abbrev pub arrived : Sending → List Message → List Message
+arrived Nothing there-is = there-is
+arrived (To q m) there-is = put m there-is
 
 -- Lists of sends.
 pub send-append : (l r : List Send) (line : Line) → sendAll (l ++ r) line ≡ sendAll r (sendAll l line)
@@ -97,18 +101,18 @@ receiver-there line (To q c) i known m k =
 
 module _ (line : Line) (i : ℕ) (up : Rising (numbers line)) (h : i < length line) where
   pub send-one : (x : Sending) → ((m : Send) → Member m (sent x) → Present line (m .to))
-      → sendAll (sent x) line ≡ withBag line (receiverOf (numbers line) x i) (arrived x ((place line i) .bag) ((place line (receiverOf (numbers line) x i)) .bag))
+      → sendAll (sent x) line ≡ withBag line (receiverOf (numbers line) x i) (arrived x ((place line (receiverOf (numbers line) x i)) .bag))
   unfolding sendAll receive
   send-one Nothing known = sym (set-getD line i nobody)
   send-one (To q m) known =
       change-at q (receive m) line (receiverOf (numbers line) (To q m) i) nobody up (receiver-within line (To q m) i h)
       (receiver-there line (To q m) i known (record { to = q; message = m }) (here refl))
 
-  pub room-one : (x : Sending) (b : Bag) → ((m : Send) → Member m (sent x) → Present line (m .to)) → b .count ≡ length ((place line (receiverOf (numbers line) x i)) .bag)
-      → all (λ (m : Send). hasRoom line (m .to)) (sent x) ≡ roomFor x b
+  pub room-one : (x : Sending) (c : ℕ) → ((m : Send) → Member m (sent x) → Present line (m .to)) → c ≡ length ((place line (receiverOf (numbers line) x i)) .bag)
+      → all (λ (m : Send). hasRoom line (m .to)) (sent x) ≡ roomFor x c
   unfolding all
-  room-one Nothing b known e = refl
-  room-one (To q m) b known e =
+  room-one Nothing c known e = refl
+  room-one (To q m) c known e =
       ap (λ (t : Bool). t && true)
       (room-at q line (receiverOf (numbers line) (To q m) i) nobody up (receiver-within line (To q m) i h)
       (receiver-there line (To q m) i known (record { to = q; message = m }) (here refl)))
@@ -120,8 +124,3 @@ unfolding sendAll
 untouched line Nothing k h away = refl
 untouched line (To q m) k h away =
     map-at (change q (receive m)) line k nobody nobody h ∙ change-other q (receive m) (place line k) (away (record { to = q; message = m }) (here refl))
-
--- what arrives depends on what was there only where something is sent
-pub arrived-same : (x : Sending) {own own′ there′ there″ : List Message} → own ≡ own′ → ((m : Send) → Member m (sent x) → there′ ≡ there″) → arrived x own there′ ≡ arrived x own′ there″
-arrived-same Nothing e f = e
-arrived-same (To q m) e f = ap (put m) (f (record { to = q; message = m }) (here refl))

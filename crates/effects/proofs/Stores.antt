@@ -1,167 +1,231 @@
--- The arrays between two steps, and what the stores of a step do to the line that they hold.
+-- The arrays between two steps, and what each store of a step does to the line that they hold.
 use Prim.Native.Nat.{ℕ, zero, suc, _-_, _≤_, _<_}
 use mathlib.Core.Path.{_≡_, refl, sym, ap, _∙_}
-use mathlib.Core.List.{List, [], _∷_, map}
+use mathlib.Core.Logic.{_≢_}
+use mathlib.Core.Bool.{Bool, true, false, cond}
+use mathlib.Core.List.{List, [], _∷_}
+use native.Mathlib.Nat.{le-of-suc-le-suc, not-suc-le-zero}
 use native.Mathlib.Omega.{arith}
-use lib.ListN.{length, getD, take, set, length-set, List·getD-map}
-use lib.Seq.{take-set-lt, getD-take}
+use lib.Dec.{eqb, ltb}
+use lib.ListN.{length, getD, take, set, length-set, length-map, List·getD-map}
+use lib.Seq.{getD-take, set-getD, getD-set-same, getD-set-other, map-set-same}
+use borrow.Author.Tests.{eqb-true, eqb-false, ltb-true, ltb-false}
 use Rattle.line.specs.declared.Message.{Message}
 use Rattle.line.specs.declared.Station as declared
+use Rattle.line.specs.Message.{precedes}
 use Rattle.line.specs.Site.{Site, Line, number, numbers, Rising}
+use Rattle.line.proofs.Lists.{sort-length, insert-length}
 use Rattle.line.proofs.Whole.{Sound}
+use Rattle.bag.specs.declared.Bag.{Bag}
+use Rattle.bag.specs.Held.{held, ordered}
+use Rattle.bag.specs.Changes.{Put}
 use Rattle.bag.specs.Places.{removeAt}
 use Rattle.block.specs.Said.{nobody}
-use Rattle.arrays.specs.Arrays.{lineIn}
-use Rattle.arrays.proofs.Lines.{siteIn, line-set, line-mail, line-get, line-length, line-without}
-use Rattle.effects.proofs.Posting.{place, withBag}
-
--- how many messages a station has
-abbrev pub size : Site → ℕ
-size s = length (s .bag)
+use Rattle.table.proofs.NumberLaws.{first-at}
+use Rattle.arrays.specs.Arrays.{siteIn, siteAt, lineIn, Within}
+use Rattle.arrays.proofs.Lines.{Alone, map-remove, line-length, line-get, line-mail, line-set, line-without}
+use Rattle.rules.specs.declared.Sending.{Sending}
+use Rattle.rules.specs.declared.Sending.the-variants.{Nothing, To}
+use Rattle.effects.proofs.Posting.{place, withBag, arrived}
 
 -- The numbers and the counts beside the line in the arrays are those of its stations and bags.
-pub record Tidy (n : ℕ) (ns : List ℕ) (stations : List declared.Station) (bags : List (List Message)) (counts : List ℕ) : Type 0 where
+pub record Tidy (n : ℕ) (ns slots : List ℕ) (stations : List declared.Station) (bags : List (List Message)) (counts : List ℕ) : Type 0 where
   pub few : n ≤ 64
   pub numbers-size : length ns ≡ 64
+  pub slots-size : length slots ≡ 64
   pub stations-size : length stations ≡ 64
   pub bags-size : length bags ≡ 64
   pub counts-size : length counts ≡ 64
-  pub numbered : take n ns ≡ numbers (lineIn n stations bags counts)
-  pub tallied : take n counts ≡ map size (lineIn n stations bags counts)
+  pub inside : Within n slots
+  pub numbered : take n ns ≡ numbers (lineIn n slots stations bags counts)
+  pub rising : Rising (take n ns)
+  pub tallied : (j : ℕ) → j < n → getD counts (getD slots j 0) 0 ≡ length ((place (lineIn n slots stations bags counts) j) .bag)
 
 -- Between two steps the line is sound as well.
-pub record Kept (n : ℕ) (ns : List ℕ) (stations : List declared.Station) (bags : List (List Message)) (counts : List ℕ) : Type 0 where
-  pub tidy : Tidy n ns stations bags counts
-  pub sound : Sound (lineIn n stations bags counts)
+pub record Kept (n : ℕ) (ns slots : List ℕ) (stations : List declared.Station) (bags : List (List Message)) (counts : List ℕ) : Type 0 where
+  pub tidy : Tidy n ns slots stations bags counts
+  pub sound : Sound (lineIn n slots stations bags counts)
 
-map-set : {A B : Type 0} (f : A → B) (l : List A) (i : ℕ) (x : A) → map f (set l i x) ≡ set (map f l) i (f x)
-map-set f [] i x = refl
-map-set f (y ∷ l) zero x = refl
-map-set {A} {B} f (y ∷ l) (suc i) x = ap (λ (r : List B). f y ∷ r) (map-set f l i x)
+-- the bag that stands in the arrays at k
+abbrev pub bagAt : List (List Message) → List ℕ → ℕ → Bag
+bagAt bags counts k = record { messages = getD bags k []; count = getD counts k 0 }
 
-map-remove : {A B : Type 0} (f : A → B) (l : List A) (i : ℕ) → map f (removeAt i l) ≡ removeAt i (map f l)
-unfolding removeAt
-map-remove f [] zero = refl
-map-remove f [] (suc i) = refl
-map-remove f (y ∷ l) zero = refl
-map-remove {A} {B} f (y ∷ l) (suc i) = ap (λ (r : List B). f y ∷ r) (map-remove f l i)
+-- what storing a message at k makes of the bags and the counts, where one is sent
+abbrev pub Mailed : Sending → ℕ → (bags : List (List Message)) (counts : List ℕ) (bags′ : List (List Message)) (counts′ : List ℕ) → Type 0
+Mailed Nothing k bags counts bags′ counts′ = (bags′ ≡ bags) × (counts′ ≡ counts)
+Mailed (To q m) k bags counts bags′ counts′ = (r : Bag) × Put (bagAt bags counts k) m r × (bags′ ≡ set bags k (r .messages)) × (counts′ ≡ set counts k (r .count))
 
--- One place.
-module _ {n : ℕ} {ns : List ℕ} {stations : List declared.Station} {bags : List (List Message)} {counts : List ℕ} (k : Tidy n ns stations bags counts) where
+module _ (x : Sending) (k : ℕ) (bags : List (List Message)) (counts : List ℕ) (bags′ : List (List Message)) (counts′ : List ℕ) where
+  pub mailed-one : (q : ℕ) (m : Message) → x ≡ To q m → (r : Bag) → Put (bagAt bags counts k) m r → bags′ ≡ set bags k (r .messages) → counts′ ≡ set counts k (r .count) → Mailed x k bags counts bags′ counts′
+  mailed-one q m e r p f g = rw e (r, p, f, g)
+
+  pub mailed-none : x ≡ Nothing → bags′ ≡ bags → counts′ ≡ counts → Mailed x k bags counts bags′ counts′
+  mailed-none e f g = rw e (f, g)
+
+module _ {n : ℕ} {ns slots : List ℕ} {stations : List declared.Station} {bags : List (List Message)} {counts : List ℕ} (t : Tidy n ns slots stations bags counts) where
   abbrev line : Line
-  line = lineIn n stations bags counts
+  line = lineIn n slots stations bags counts
+
+  long : n ≤ length slots
+  long = omega (arith, t .few, t .slots-size)
 
   pub kept-length : length line ≡ n
-  kept-length = line-length n stations bags counts (omega (arith, k .few, k .stations-size)) (omega (arith, k .few, k .bags-size)) (omega (arith, k .few, k .counts-size))
+  kept-length = line-length n slots long stations bags counts
+
+  -- no other place has the slot of place i, since its station would have the same number
+  pub alone : (i : ℕ) → i < n → Alone n slots i
+  alone i h j g ne e = ne (sym (first-at (number (place line i)) (numbers line) j up (within g) (named j g ∙ ap number (same j g e))) ∙ first-at (number (place line i)) (numbers line) i up (within h) (named i h))
+    where
+      up : Rising (numbers line)
+      up = rw (← (t .numbered)) (t .rising)
+
+      within : {j : ℕ} → j < n → j < length (numbers line)
+      within g = omega (arith, length-map line number, kept-length)
+
+      named : (j : ℕ) → j < n → getD (numbers line) j 0 ≡ number (place line j)
+      named j g = List·getD-map number line j nobody
+
+      same : (j : ℕ) → j < n → getD slots j 0 ≡ getD slots i 0 → place line j ≡ place line i
+      same j g e = line-get n slots long stations bags counts j g nobody ∙ ap (siteAt stations bags counts) e ∙ sym (line-get n slots long stations bags counts i h nobody)
 
   module _ (i : ℕ) (h : i < n) where
-    pub kept-place : place line i ≡ siteIn (getD stations i (nobody .station)) (getD bags i []) (getD counts i 0)
-    kept-place =
-        line-get n stations bags counts (omega (arith, k .few, k .stations-size)) (omega (arith, k .few, k .bags-size)) (omega (arith, k .few, k .counts-size)) i (nobody .station) [] nobody h
+    abbrev slot : ℕ
+    slot = getD slots i 0
+
+    pub kept-place : place line i ≡ siteAt stations bags counts slot
+    kept-place = line-get n slots long stations bags counts i h nobody
 
     pub kept-number : getD (take n ns) i 0 ≡ number (place line i)
-    kept-number = ap (λ (l : List ℕ). getD l i 0) (k .numbered) ∙ List·getD-map number line i nobody
+    kept-number = ap (λ (l : List ℕ). getD l i 0) (t .numbered) ∙ List·getD-map number line i nobody
 
-    pub kept-count : getD counts i 0 ≡ size (place line i)
-    kept-count = sym (getD-take n counts i 0 h) ∙ ap (λ (l : List ℕ). getD l i 0) (k .tallied) ∙ List·getD-map size line i nobody
+    pub kept-bag : ordered (bagAt bags counts slot) ≡ (place line i) .bag
+    kept-bag = sym (ap (λ (s : Site). s .bag) kept-place)
 
--- The numbers rise.
-pub kept-rising : {n : ℕ} {ns : List ℕ} {stations : List declared.Station} {bags : List (List Message)} {counts : List ℕ} → Kept n ns stations bags counts → Rising (take n ns)
-kept-rising k = rw (k .tidy .numbered) (k .sound .written .rising)
+    pub kept-count : getD counts slot 0 ≡ length (held (bagAt bags counts slot))
+    kept-count = t .tallied i h ∙ ap length (sym kept-bag) ∙ sort-length precedes (held (bagAt bags counts slot))
 
--- A bag and its count stored at place a.
-module _ (n : ℕ) (stations : List declared.Station) (bags : List (List Message)) (counts : List ℕ)
-    (s : n ≤ length stations) (b : n ≤ length bags) (c : n ≤ length counts) (a : ℕ) (h : a < n) (row : List Message) (m : ℕ) where
-  pub store-bag : lineIn n stations (set bags a row) (set counts a m) ≡ withBag (lineIn n stations bags counts) a (take m row)
-  store-bag =
-      line-mail n stations bags counts a (nobody .station) row m h
-      ∙ ap (λ (t : declared.Station). set (lineIn n stations bags counts) a (siteIn t row m))
-      (sym (ap (λ (x : Site). x .station) (line-get n stations bags counts s b c a (nobody .station) [] nobody h)))
+    -- a station, a row and a count stored at place i
+    module _ (s : declared.Station) (row : List Message) (m : ℕ) where
+      pub set-line : lineIn n slots (set stations slot s) (set bags slot row) (set counts slot m) ≡ set line i (siteIn s row m)
+      set-line =
+          let k = t .inside i h in
+          line-set n slots long stations bags counts i h (alone i h) (omega (arith, t .bags-size)) (omega (arith, t .counts-size)) row m (omega (arith, t .stations-size)) s
 
--- What one step stores: a station and its bag at place i, then a bag at a and a bag at b.
-module _ {n : ℕ} {ns : List ℕ} {stations : List declared.Station} {bags : List (List Message)} {counts : List ℕ} (k : Tidy n ns stations bags counts)
-    (i a b : ℕ) (hi : i < n) (ha : a < n) (hb : b < n) (s : declared.Station) (r₀ r₁ r₂ : List Message) (c₀ c₁ c₂ : ℕ) where
-  abbrev stations′ : List declared.Station
-  stations′ = set stations i s
+      pub set-tidy : s .number ≡ number (place line i) → m ≡ length (take m row) → Tidy n ns slots (set stations slot s) (set bags slot row) (set counts slot m)
+      set-tidy e f = record {
+        few = t .few;
+        numbers-size = t .numbers-size;
+        slots-size = t .slots-size;
+        stations-size = simp length-set (t .stations-size);
+        bags-size = simp length-set (t .bags-size);
+        counts-size = simp length-set (t .counts-size);
+        inside = t .inside;
+        numbered = t .numbered ∙ sym (ap numbers set-line ∙ map-set-same number line i (siteIn s row m) nobody e);
+        rising = t .rising;
+        tallied = λ j g. go j g (eqb j i) refl;
+      }
+        where
+          Counted : ℕ → Type 0
+          Counted j = getD (set counts slot m) (getD slots j 0) 0 ≡ length ((place (lineIn n slots (set stations slot s) (set bags slot row) (set counts slot m)) j) .bag)
 
-  abbrev bags′ : List (List Message)
-  bags′ = set (set (set bags i r₀) a r₁) b r₂
+          here : (j : ℕ) → j < n → j ≡ i → Counted j
+          here j g p =
+              let k = t .inside i h in
+              let l = kept-length in
+              rw (p, set-line, getD-set-same line i (siteIn s row m) nobody (omega arith), getD-set-same counts slot m 0 (omega (arith, t .counts-size))) (f ∙ sym (sort-length precedes (take m row)))
 
-  abbrev counts′ : List ℕ
-  counts′ = set (set (set counts i c₀) a c₁) b c₂
+          elsewhere : (j : ℕ) → j < n → j ≢ i → Counted j
+          elsewhere j g ne =
+              rw (set-line, getD-set-other line i j (siteIn s row m) nobody ne, getD-set-other counts slot (getD slots j 0) m 0 (alone i h j g ne)) (t .tallied j g)
 
-  pub bags-size′ : length bags′ ≡ 64
-  bags-size′ = simp length-set (k .bags-size)
+          go : (j : ℕ) → j < n → (b : Bool) → eqb j i ≡ b → Counted j
+          go j g true e = here j g (eqb-true j i e)
+          go j g false e = elsewhere j g (eqb-false j i e)
 
-  pub counts-size′ : length counts′ ≡ 64
-  counts-size′ = simp length-set (k .counts-size)
+    -- a message stored there, where one is sent
+    pub mail-line : (x : Sending) (bags′ : List (List Message)) (counts′ : List ℕ) → Mailed x slot bags counts bags′ counts′
+        → lineIn n slots stations bags′ counts′ ≡ withBag line i (arrived x ((place line i) .bag))
+    mail-line Nothing bags′ counts′ p = rw (p .0, p .1) (sym (set-getD line i nobody))
+    mail-line (To q m) bags′ counts′ p =
+        let k = t .inside i h in
+        let r = p .0 in
+        rw (p .2, p .3) (line-mail n slots long stations bags counts i h (alone i h) (omega (arith, t .bags-size)) (omega (arith, t .counts-size)) (r .messages) (r .count)
+        ∙ ap (λ (b : List Message). set line i (record { station = getD stations slot (nobody .station); bag = b })) (p .1 .ordered-is ∙ rw kept-bag)
+        ∙ ap (λ (s : declared.Station). set line i (record { station = s; bag = arrived (To q m) ((place line i) .bag) })) (sym (ap (λ (s : Site). s .station) kept-place)))
 
-  pub stations-size′ : length stations′ ≡ 64
-  stations-size′ = simp length-set (k .stations-size)
+    pub mail-tidy : (x : Sending) (bags′ : List (List Message)) (counts′ : List ℕ) → Mailed x slot bags counts bags′ counts′ → Tidy n ns slots stations bags′ counts′
+    mail-tidy Nothing bags′ counts′ p = rw (p .0, p .1) t
+    mail-tidy (To q m) bags′ counts′ p =
+        let r = p .0 in
+        let b = bagAt bags counts slot in
+        let size : r .count ≡ length (held r) =
+        p .1 .counted ∙ omega (arith, sort-length precedes (held r), ap length (p .1 .ordered-is), insert-length precedes m (ordered b), sort-length precedes (held b), kept-count) in
+        rw (← (p .2), ← (p .3), set-getD stations slot (nobody .station)) at (set-tidy (getD stations slot (nobody .station)) (r .messages) (r .count) (sym (ap number kept-place)) size)
 
-  pub stored-line : lineIn n stations′ bags′ counts′ ≡ withBag (withBag (set (lineIn n stations bags counts) i (siteIn s r₀ c₀)) a (take c₁ r₁)) b (take c₂ r₂)
-  stored-line =
-      let few = k .few in
-      let ls : length (set stations i s) ≡ 64 = stations-size′ in
-      let lb : length (set bags i r₀) ≡ 64 = simp length-set (k .bags-size) in
-      let lc : length (set counts i c₀) ≡ 64 = simp length-set (k .counts-size) in
-      let mb : length (set (set bags i r₀) a r₁) ≡ 64 = simp length-set (k .bags-size) in
-      let mc : length (set (set counts i c₀) a c₁) ≡ 64 = simp length-set (k .counts-size) in
-      store-bag n (set stations i s) (set (set bags i r₀) a r₁) (set (set counts i c₀) a c₁) (omega arith) (omega arith) (omega arith) b hb r₂ c₂
-      ∙ ap (λ (l : Line). withBag l b (take c₂ r₂))
-      (store-bag n (set stations i s) (set bags i r₀) (set counts i c₀) (omega arith) (omega arith) (omega arith) a ha r₁ c₁
-      ∙ ap (λ (l : Line). withBag l a (take c₁ r₁)) (line-set n stations bags counts i s r₀ c₀ hi))
+-- Place i taken out of a list: what stood after it stands one place further down.
+remove-before : {A : Type 0} (l : List A) (i j : ℕ) (d : A) → j < i → getD (removeAt i l) j d ≡ getD l j d
+unfolding removeAt
+remove-before [] zero j d h = refl
+remove-before [] (suc i) j d h = refl
+remove-before (y ∷ l) zero j d h = absurd (not-suc-le-zero h)
+remove-before (y ∷ l) (suc i) zero d h = refl
+remove-before (y ∷ l) (suc i) (suc j) d h = remove-before l i j d (le-of-suc-le-suc h)
 
-  -- the counts beside the bags
-  module _ (e₀ : c₀ ≡ length (take c₀ r₀)) (e₁ : c₁ ≡ length (take c₁ r₁)) (e₂ : c₂ ≡ length (take c₂ r₂)) where
-    pub stored-counts : take n counts′ ≡ map size (lineIn n stations′ bags′ counts′)
-    stored-counts =
-        take-set-lt n (set (set counts i c₀) a c₁) b c₂ hb
-        ∙ ap (λ (l : List ℕ). set l b c₂) (take-set-lt n (set counts i c₀) a c₁ ha ∙ ap (λ (l : List ℕ). set l a c₁) (take-set-lt n counts i c₀ hi ∙ ap (λ (l : List ℕ). set l i c₀) (k .tallied)))
-        ∙ sym counted
-      where
-        counted : map size (lineIn n stations′ bags′ counts′) ≡ set (set (set (map size (lineIn n stations bags counts)) i c₀) a c₁) b c₂
-        counted =
-            let line₀ = lineIn n stations bags counts in
-            ap (map size) stored-line
-            ∙ map-set size (withBag (set line₀ i (siteIn s r₀ c₀)) a (take c₁ r₁)) b _
-            ∙ ap (λ (l : List ℕ). set l b (length (take c₂ r₂))) (map-set size (set line₀ i (siteIn s r₀ c₀)) a _ ∙ ap (λ (l : List ℕ). set l a (length (take c₁ r₁))) (map-set size line₀ i (siteIn s r₀ c₀)))
-            ∙ ap (λ (m : ℕ). set (set (set (map size line₀) i m) a (length (take c₁ r₁))) b (length (take c₂ r₂))) (sym e₀)
-            ∙ ap (λ (m : ℕ). set (set (set (map size line₀) i c₀) a m) b (length (take c₂ r₂))) (sym e₁)
-            ∙ ap (λ (m : ℕ). set (set (set (map size line₀) i c₀) a c₁) b m) (sym e₂)
+remove-after : {A : Type 0} (l : List A) (i j : ℕ) (d : A) → i ≤ j → getD (removeAt i l) j d ≡ getD l (suc j) d
+unfolding removeAt
+remove-after [] zero j d h = refl
+remove-after [] (suc i) j d h = refl
+remove-after (y ∷ l) zero j d h = refl
+remove-after (y ∷ l) (suc i) zero d h = absurd (not-suc-le-zero h)
+remove-after (y ∷ l) (suc i) (suc j) d h = remove-after l i j d (le-of-suc-le-suc h)
 
-    -- the stores leave the arrays tidy, if the station keeps its number
-    pub tidy-stored : numbers (lineIn n stations′ bags′ counts′) ≡ numbers (lineIn n stations bags counts) → Tidy n ns stations′ bags′ counts′
-    tidy-stored same = record {
-      few = k .few;
-      numbers-size = k .numbers-size;
-      stations-size = stations-size′;
-      bags-size = bags-size′;
-      counts-size = counts-size′;
-      numbered = k .numbered ∙ sym same;
-      tallied = stored-counts;
-    }
+-- where the element stood that now stands at j
+abbrev stood : ℕ → ℕ → ℕ
+stood i j = cond (ltb j i) j (suc j)
 
--- Place i taken out of each array.
-pub record Dropped {A : Type 0} (n i : ℕ) (old new : List A) : Type 0 where
+stood-within : (n i j : ℕ) → j < n - 1 → stood i j < n
+stood-within n i j h = go (ltb j i)
+  where
+    go : (b : Bool) → cond b j (suc j) < n
+    go true = omega arith
+    go false = omega arith
+
+remove-get : {A : Type 0} (l : List A) (i j : ℕ) (d : A) → getD (removeAt i l) j d ≡ getD l (stood i j) d
+remove-get l i j d = go (ltb j i) refl
+  where
+    go : (b : Bool) → ltb j i ≡ b → getD (removeAt i l) j d ≡ getD l (cond b j (suc j)) d
+    go true e = remove-before l i j d (ltb-true j i e)
+    go false e = remove-after l i j d (ltb-false j i e)
+
+pub record Dropped (n i : ℕ) (old new : List ℕ) : Type 0 where
   pub size : length new ≡ 64
   pub is : take (n - 1) new ≡ removeAt i (take n old)
 
-module _ {n : ℕ} {ns : List ℕ} {stations : List declared.Station} {bags : List (List Message)} {counts : List ℕ} (k : Tidy n ns stations bags counts)
-    (i : ℕ) {ns′ : List ℕ} {stations′ : List declared.Station} {bags′ : List (List Message)} {counts′ : List ℕ}
-    (dn : Dropped n i ns ns′) (ds : Dropped n i stations stations′) (db : Dropped n i bags bags′) (dc : Dropped n i counts counts′) where
-  pub dropped-line : lineIn (n - 1) stations′ bags′ counts′ ≡ removeAt i (lineIn n stations bags counts)
-  dropped-line =
-      line-without n stations bags counts (omega (arith, k .few, k .stations-size)) (omega (arith, k .few, k .bags-size)) (omega (arith, k .few, k .counts-size))
-      i stations′ bags′ counts′ (ds .is) (db .is) (dc .is)
+module _ {n : ℕ} {ns slots : List ℕ} {stations : List declared.Station} {bags : List (List Message)} {counts : List ℕ} (t : Tidy n ns slots stations bags counts)
+    (i : ℕ) {ns′ slots′ : List ℕ} (dn : Dropped n i ns ns′) (ds : Dropped n i slots slots′) where
+  pub dropped-line : lineIn (n - 1) slots′ stations bags counts ≡ removeAt i (lineIn n slots stations bags counts)
+  dropped-line = line-without n slots (omega (arith, t .few, t .slots-size)) stations bags counts i slots′ (ds .is)
 
-  pub tidy-dropped : Tidy (n - 1) ns′ stations′ bags′ counts′
-  tidy-dropped = record {
-    few = omega (arith, k .few);
+  -- the slots are among those that were
+  dropped-slot : (j : ℕ) (h : j < n - 1) → getD slots′ j 0 ≡ getD slots (stood i j) 0
+  dropped-slot j h =
+      sym (getD-take (n - 1) slots′ j 0 h) ∙ ap (λ (l : List ℕ). getD l j 0) (ds .is) ∙ remove-get (take n slots) i j 0 ∙ getD-take n slots (stood i j) 0 (stood-within n i j h)
+
+  pub dropped-numbered : take (n - 1) ns′ ≡ numbers (lineIn (n - 1) slots′ stations bags counts)
+  dropped-numbered = dn .is ∙ ap (removeAt i) (t .numbered) ∙ sym (map-remove number (lineIn n slots stations bags counts) i) ∙ ap numbers (sym dropped-line)
+
+  pub dropped-tidy : Rising (take (n - 1) ns′) → Tidy (n - 1) ns′ slots′ stations bags counts
+  dropped-tidy up = record {
+    few = omega (arith, t .few);
     numbers-size = dn .size;
-    stations-size = ds .size;
-    bags-size = db .size;
-    counts-size = dc .size;
-    numbered = dn .is ∙ ap (removeAt i) (k .numbered) ∙ sym (map-remove number (lineIn n stations bags counts) i) ∙ ap numbers (sym dropped-line);
-    tallied = dc .is ∙ ap (removeAt i) (k .tallied) ∙ sym (map-remove size (lineIn n stations bags counts) i) ∙ ap (map size) (sym dropped-line);
+    slots-size = ds .size;
+    stations-size = t .stations-size;
+    bags-size = t .bags-size;
+    counts-size = t .counts-size;
+    inside = λ j h. rw (dropped-slot j h) (t .inside (stood i j) (stood-within n i j h));
+    numbered = dropped-numbered;
+    rising = up;
+    tallied = λ j h.
+        ap (λ (m : ℕ). getD counts m 0) (dropped-slot j h) ∙ t .tallied (stood i j) (stood-within n i j h)
+        ∙ ap (λ (s : Site). length (s .bag)) (sym (ap (λ (l : Line). place l j) dropped-line ∙ remove-get (lineIn n slots stations bags counts) i j nobody));
   }

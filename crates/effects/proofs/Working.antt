@@ -26,8 +26,6 @@ use Rattle.line.proofs.NidecTest.{nidec-tested}
 use Rattle.line.proofs.Local.{Outcome, act-outcome}
 use Rattle.line.proofs.Sends.{Clear, clear-act}
 use Rattle.line.proofs.Whole.{Sound, fit-of}
-use Rattle.bag.specs.declared.Bag.{Bag}
-use Rattle.bag.specs.Held.{held}
 use Rattle.bag.specs.Places.{removeAt}
 use Rattle.block.specs.Said.{nobody}
 use Rattle.table.proofs.NumberLaws.{member-at}
@@ -35,10 +33,10 @@ use Rattle.arrays.proofs.Sites.{map-at}
 use Rattle.rules.specs.declared.Sending.{Sending}
 use Rattle.rules.specs.declared.Verdict.the-variants.{Done, Refused}
 use Rattle.rules.specs.declared.Decision.{Decision}
-use Rattle.rules.specs.Decided.{sent, bothSent, effect, decided, Decides}
-use Rattle.moves.specs.Sends.{isExit, receiverOf, roomFor, arrived}
+use Rattle.rules.specs.Decided.{sent, bothSent, rest, effect, decided, Decides}
+use Rattle.moves.specs.Sends.{isExit, receiverOf, roomFor}
 use Rattle.effects.proofs.OnePlace.{find-at, change-at, without-at}
-use Rattle.effects.proofs.Posting.{place, withBag, send-append, send-numbers, send-without, rooms-append, apart-across, receiver-within, receiver-there, send-one, room-one, untouched, arrived-same}
+use Rattle.effects.proofs.Posting.{place, withBag, arrived, bag-numbers, send-append, send-numbers, send-without, rooms-append, apart-across, receiver-within, receiver-there, send-one, room-one, untouched}
 
 -- members of two lists, one after the other
 in-first : {A : Type 0} {x : A} (l r : List A) → Member x l → Member x (l ++ r)
@@ -63,25 +61,26 @@ act-alone a b s Timeout h = refl
 act-alone a b s (Deliver m) h = refl
 act-alone a b s Exit h = ap (λ (t : Bool). act t s Exit) (sym (h refl))
 
--- Station x .station stands at place i; d is its decision with the bag b.
-pub record Decided (line : Line) (x : declared.Step) (i : ℕ) (alone : Bool) (b : Bag) (d : Decision) : Type 0 where
+-- Station x .station stands at place i; d is its decision.
+pub record Decided (line : Line) (x : declared.Step) (i : ℕ) (alone : Bool) (d : Decision) : Type 0 where
   pub sound : Sound line
   pub within : i < length line
   pub found : number (place line i) ≡ x .station
   pub asked : isExit (x .action) ≡ true → alone ≡ nidec line (place line i)
-  pub own : held b ≡ (place line i) .bag
-  pub decides : Decides alone ((place line i) .station) b (x .action) d
+  pub decides : Decides alone ((place line i) .station) ((place line i) .bag) (x .action) d
 
-module _ {line : Line} {x : declared.Step} {i : ℕ} {alone : Bool} {b : Bag} {d : Decision} (k : Decided line x i alone b d) where
+module _ {line : Line} {x : declared.Step} {i : ℕ} {alone : Bool} {d : Decision} (k : Decided line x i alone d) where
   abbrev here-is : Site
   here-is = place line i
 
-  acts : act (nidec line here-is) here-is (x .action) ≡ decided (d .verdict) (effect d)
-  acts =
-      act-alone alone (nidec line here-is) here-is (x .action) (k .asked)
-      ∙ ap (λ (l : List Message). act alone (record { station = here-is .station; bag = l }) (x .action)) (sym (k .own)) ∙ sym (k .decides .says)
+  -- the bag of the station afterwards
+  abbrev left : List Message
+  left = rest (x .action) (here-is .bag)
 
-  steps : step line x ≡ (decided (d .verdict) (effect d) >>= (λ (e : Effect). commit line (number here-is) e))
+  acts : act (nidec line here-is) here-is (x .action) ≡ decided (d .verdict) (effect d left)
+  acts = act-alone alone (nidec line here-is) here-is (x .action) (k .asked) ∙ sym (k .decides .says)
+
+  steps : step line x ≡ (decided (d .verdict) (effect d left) >>= (λ (e : Effect). commit line (number here-is) e))
   unfolding step _>>=_
   steps =
       ap (λ (a : Answer Site). a >>= (λ (s : Site). act (nidec line s) s (x .action) >>= (λ (e : Effect). commit line (number s) e)))
@@ -91,12 +90,12 @@ module _ {line : Line} {x : declared.Step} {i : ℕ} {alone : Bool} {b : Bag} {d
   -- the station itself refuses
   pub step-refused : (r : Refusal) → d .verdict ≡ Refused r → step line x ≡ refused r
   unfolding _>>=_
-  step-refused r e = steps ∙ ap (λ v. decided v (effect d) >>= (λ (e : Effect). commit line (number here-is) e)) e
+  step-refused r e = steps ∙ ap (λ v. decided v (effect d left) >>= (λ (e : Effect). commit line (number here-is) e)) e
 
   -- it does not
   module _ (go : d .verdict ≡ Done) where
-    acted : act (nidec line here-is) here-is (x .action) ≡ done (effect d)
-    acted = acts ∙ ap (λ v. decided v (effect d)) go
+    acted : act (nidec line here-is) here-is (x .action) ≡ done (effect d left)
+    acted = acts ∙ ap (λ v. decided v (effect d left)) go
 
     there-is : Member here-is line
     there-is = member-at line i nobody (k .within)
@@ -104,7 +103,7 @@ module _ {line : Line} {x : declared.Step} {i : ℕ} {alone : Bool} {b : Bag} {d
     sided : Sided here-is
     sided = k .sound .accepted .sided here-is there-is
 
-    outcome : Outcome line (number here-is) (Linked here-is) (effect d .after) (effect d .sends)
+    outcome : Outcome line (number here-is) (Linked here-is) (effect d left .after) (effect d left .sends)
     outcome = act-outcome line here-is sided (fit-of (k .sound) here-is there-is) (nidec line here-is) (nidec-tested line here-is .0) (x .action) acted
 
     clear : Clear (number here-is) (bothSent (d .sendings))
@@ -114,15 +113,15 @@ module _ {line : Line} {x : declared.Step} {i : ℕ} {alone : Bool} {b : Bag} {d
     reached : (m : Send) → Member m (bothSent (d .sendings)) → Linked here-is (m .to)
     reached = of (d .gone) outcome
       where
-        of : (g : Bool) → Outcome line (number here-is) (Linked here-is) (cond g none (some (record { station = d .station; bag = held (d .bag) }))) (bothSent (d .sendings))
+        of : (g : Bool) → Outcome line (number here-is) (Linked here-is) (cond g none (some (record { station = d .station; bag = left }))) (bothSent (d .sendings))
             → (m : Send) → Member m (bothSent (d .sendings)) → Linked here-is (m .to)
         of true o m = o .fair .reaches m
         of false o m = o .fair .reaches m
 
-    named : d .station .number ≡ number here-is
+    pub named : d .station .number ≡ number here-is
     named = of (d .gone) refl outcome
       where
-        of : (g : Bool) → d .gone ≡ g → Outcome line (number here-is) (Linked here-is) (cond g none (some (record { station = d .station; bag = held (d .bag) }))) (bothSent (d .sendings))
+        of : (g : Bool) → d .gone ≡ g → Outcome line (number here-is) (Linked here-is) (cond g none (some (record { station = d .station; bag = left }))) (bothSent (d .sendings))
             → d .station .number ≡ number here-is
         of true e o = ap (λ s. s .number) (k .decides .itself e)
         of false e o = o .named
@@ -138,16 +137,16 @@ module _ {line : Line} {x : declared.Step} {i : ℕ} {alone : Bool} {b : Bag} {d
     two = d .sendings .second
 
     abbrev stored : Line
-    stored = set line i (record { station = d .station; bag = held (d .bag) })
+    stored = set line i (record { station = d .station; bag = left })
 
     pub stored-numbers : numbers stored ≡ numbers line
-    stored-numbers = map-set-same number line i (record { station = d .station; bag = held (d .bag) }) nobody named
+    stored-numbers = map-set-same number line i (record { station = d .station; bag = left }) nobody named
 
     stored-within : i < length stored
-    stored-within = rw (length-set line i (record { station = d .station; bag = held (d .bag) })) (k .within)
+    stored-within = rw (length-set line i (record { station = d .station; bag = left })) (k .within)
 
-    stored-here : place stored i ≡ record { station = d .station; bag = held (d .bag) }
-    stored-here = getD-set-same line i (record { station = d .station; bag = held (d .bag) }) nobody (k .within)
+    stored-here : place stored i ≡ record { station = d .station; bag = left }
+    stored-here = getD-set-same line i (record { station = d .station; bag = left }) nobody (k .within)
 
     -- the places of those who receive, and the bags there
     abbrev at-one : ℕ
@@ -167,96 +166,93 @@ module _ {line : Line} {x : declared.Step} {i : ℕ} {alone : Bool} {b : Bag} {d
         → (m : Send) → Member m (sent y) → receiverOf (numbers line) y i ≢ i
     elsewhere y there-are among m h e = clear .away m (among m h) (sym (receiver-there line y i there-are m h) ∙ ap (λ (j : ℕ). number (place line j)) e)
 
-    module _ (p q : Bag) (p-is : held p ≡ (place line at-one) .bag) (q-is : held q ≡ (place line at-two) .bag) where
-      posted-one : sendAll (sent one) stored ≡ withBag stored at-one (arrived one (held (d .bag)) (held p))
-      posted-one =
-          rw stored-numbers at (send-one stored i (rw stored-numbers (k .sound .written .rising)) stored-within one (λ m h. rw stored-numbers (known-one m h)))
-          ∙ ap (withBag stored at-one)
-          (arrived-same one (ap (λ (s : Site). s .bag) stored-here)
-          (λ m h. ap (λ (s : Site). s .bag) (getD-set-other line i at-one (record { station = d .station; bag = held (d .bag) }) nobody (elsewhere one known-one (λ n. in-first (sent one) (sent two)) m h)) ∙ sym p-is))
+    -- what the first message makes of the line, and then the second
+    abbrev first-posted : Line
+    first-posted = withBag stored at-one (arrived one ((place stored at-one) .bag))
 
-      abbrev between : Line
-      between = sendAll (sent one) stored
+    abbrev both-posted : Line
+    both-posted = withBag first-posted at-two (arrived two ((place first-posted at-two) .bag))
 
-      between-numbers : numbers between ≡ numbers line
-      between-numbers = send-numbers (sent one) stored ∙ stored-numbers
+    first-sent : sendAll (sent one) stored ≡ first-posted
+    first-sent = rw stored-numbers at (send-one stored i (rw stored-numbers (k .sound .written .rising)) stored-within one (λ m h. rw stored-numbers (known-one m h)))
 
-      between-within : i < length between
-      between-within = rw (sym (length-map between number) ∙ ap length between-numbers ∙ length-map line number) (k .within)
+    first-numbers : numbers first-posted ≡ numbers line
+    first-numbers = bag-numbers stored at-one (arrived one ((place stored at-one) .bag)) ∙ stored-numbers
 
-      between-here : place between i ≡ record { station = d .station; bag = held (d .bag) }
-      between-here =
-          untouched stored one i stored-within (λ m h e. clear .away m (in-first (sent one) (sent two) h) (sym e ∙ ap number stored-here ∙ named)) ∙ stored-here
+    first-within : i < length first-posted
+    first-within = rw (sym (length-map first-posted number) ∙ ap length first-numbers ∙ length-map line number) (k .within)
 
-      between-two : (m : Send) → Member m (sent two) → place between at-two ≡ place line at-two
-      between-two m h =
-          let other = getD-set-other line i at-two (record { station = d .station; bag = held (d .bag) }) nobody (elsewhere two known-two (λ n. in-second (sent one) (sent two)) m h) in
-          untouched stored one at-two (rw (length-set line i (record { station = d .station; bag = held (d .bag) })) (receiver-within line two i (k .within)))
-          (λ n g e. apart-across (sent one) (sent two) (clear .once) g h (sym e ∙ ap number other ∙ receiver-there line two i known-two m h))
-          ∙ other
+    posted : sendAll (bothSent (d .sendings)) stored ≡ both-posted
+    posted =
+        send-append (sent one) (sent two) stored ∙ ap (sendAll (sent two)) first-sent
+        ∙ rw first-numbers at (send-one first-posted i (rw first-numbers (k .sound .written .rising)) first-within two (λ m h. rw first-numbers (known-two m h)))
 
-      posted : sendAll (bothSent (d .sendings)) stored
-          ≡ withBag (withBag stored at-one (arrived one (held (d .bag)) (held p))) at-two (arrived two (held (d .bag)) (held q))
-      posted =
-          send-append (sent one) (sent two) stored
-          ∙ rw between-numbers at (send-one between i (rw between-numbers (k .sound .written .rising)) between-within two (λ m h. rw between-numbers (known-two m h)))
-          ∙ ap (withBag between at-two)
-          (arrived-same two (ap (λ (s : Site). s .bag) between-here) (λ m h. ap (λ (s : Site). s .bag) (between-two m h) ∙ sym q-is))
-          ∙ ap (λ (l : Line). withBag l at-two (arrived two (held (d .bag)) (held q))) posted-one
+    -- a receiver's bag is the one that it had before the step
+    pub first-unmoved : (m : Send) → Member m (sent one) → place stored at-one ≡ place line at-one
+    first-unmoved m h = getD-set-other line i at-one (record { station = d .station; bag = left }) nobody (elsewhere one known-one (λ n. in-first (sent one) (sent two)) m h)
 
-      module _ (p-count : p .count ≡ length (held p)) (q-count : q .count ≡ length (held q)) where
-        rooms : all (λ (m : Send). hasRoom line (m .to)) (bothSent (d .sendings)) ≡ (roomFor one p && roomFor two q)
-        rooms =
-            rooms-append line (sent one) (sent two)
-            ∙ ap₂ (λ (s t : Bool). s && t) (room-one line i (k .sound .written .rising) (k .within) one p known-one (p-count ∙ ap length p-is))
-            (room-one line i (k .sound .written .rising) (k .within) two q known-two (q-count ∙ ap length q-is))
+    pub second-unmoved : (m : Send) → Member m (sent two) → place first-posted at-two ≡ place line at-two
+    second-unmoved m h =
+        let other = getD-set-other line i at-two (record { station = d .station; bag = left }) nobody (elsewhere two known-two (λ n. in-second (sent one) (sent two)) m h) in
+        ap (λ (l : Line). place l at-two) (sym first-sent)
+        ∙ untouched stored one at-two (rw (length-set line i (record { station = d .station; bag = left })) (receiver-within line two i (k .within)))
+        (λ n g e. apart-across (sent one) (sent two) (clear .once) g h (sym e ∙ ap number other ∙ receiver-there line two i known-two m h))
+        ∙ other
 
-        committed : step line x ≡ require (roomFor one p && roomFor two q) Full (done (sendAll (bothSent (d .sendings)) (replace (number here-is) (effect d .after) line)))
-        unfolding _>>=_ commit
-        committed =
-            steps ∙ ap (λ v. decided v (effect d) >>= (λ (e : Effect). commit line (number here-is) e)) go
-            ∙ ap (λ (t : Bool). require t Full (done (sendAll (bothSent (d .sendings)) (replace (number here-is) (effect d .after) line)))) rooms
+    -- the counts of the receivers' bags
+    module _ (a b : ℕ) (a-is : a ≡ length ((place line at-one) .bag)) (b-is : b ≡ length ((place line at-two) .bag)) where
+      rooms : all (λ (m : Send). hasRoom line (m .to)) (bothSent (d .sendings)) ≡ (roomFor one a && roomFor two b)
+      rooms =
+          rooms-append line (sent one) (sent two)
+          ∙ ap₂ (λ (s t : Bool). s && t) (room-one line i (k .sound .written .rising) (k .within) one a known-one a-is)
+          (room-one line i (k .sound .written .rising) (k .within) two b known-two b-is)
 
-        -- a bag that must receive holds 32
-        pub step-full : (roomFor one p && roomFor two q) ≡ false → step line x ≡ refused Full
-        step-full e = committed ∙ require-false _ Full _ e
+      committed : step line x ≡ require (roomFor one a && roomFor two b) Full (done (sendAll (bothSent (d .sendings)) (replace (number here-is) (effect d left .after) line)))
+      unfolding _>>=_ commit
+      committed =
+          steps ∙ ap (λ v. decided v (effect d left) >>= (λ (e : Effect). commit line (number here-is) e)) go
+          ∙ ap (λ (t : Bool). require t Full (done (sendAll (bothSent (d .sendings)) (replace (number here-is) (effect d left .after) line)))) rooms
 
-        module _ (fit : (roomFor one p && roomFor two q) ≡ true) where
-          fits : step line x ≡ done (sendAll (bothSent (d .sendings)) (replace (number here-is) (effect d .after) line))
-          fits = committed ∙ require-true _ Full _ fit
+      -- a bag that must receive holds 32
+      pub step-full : (roomFor one a && roomFor two b) ≡ false → step line x ≡ refused Full
+      step-full e = committed ∙ require-false _ Full _ e
 
-          -- the station stays
-          pub step-stays : d .gone ≡ false → step line x ≡ done (withBag (withBag stored at-one (arrived one (held (d .bag)) (held p))) at-two (arrived two (held (d .bag)) (held q)))
-          unfolding replace
-          step-stays e =
-              fits
-              ∙ ap (λ (g : Bool). done (sendAll (bothSent (d .sendings)) (replace (number here-is) (cond g none (some (record { station = d .station; bag = held (d .bag) }))) line))) e
-              ∙ ap (λ (l : Line). done (sendAll (bothSent (d .sendings)) l))
-              (change-at (number here-is) (λ (t : Site). record { station = d .station; bag = held (d .bag) }) line i nobody (k .sound .written .rising) (k .within) refl)
-              ∙ ap done posted
+      module _ (fit : (roomFor one a && roomFor two b) ≡ true) where
+        fits : step line x ≡ done (sendAll (bothSent (d .sendings)) (replace (number here-is) (effect d left .after) line))
+        fits = committed ∙ require-true _ Full _ fit
 
-          -- the station goes
-          pub step-leaves : d .gone ≡ true
-              → step line x ≡ done (removeAt i (withBag (withBag stored at-one (arrived one (held (d .bag)) (held p))) at-two (arrived two (held (d .bag)) (held q))))
-          unfolding replace
-          step-leaves e =
-              let after = sendAll (bothSent (d .sendings)) stored in
-              let same : numbers after ≡ numbers line = send-numbers (bothSent (d .sendings)) stored ∙ stored-numbers in
-              let n = number here-is in
-              let at : number (place after i) ≡ n = sym (map-at number after i nobody 0 (after-within after same)) ∙ ap (λ (l : List ℕ). getD l i 0) same ∙ map-at number line i nobody 0 (k .within) in
-              fits
-              ∙ ap (λ (g : Bool). done (sendAll (bothSent (d .sendings)) (replace n (cond g none (some (record { station = d .station; bag = held (d .bag) }))) line))) e
-              ∙ ap (λ (l : Line). done (sendAll (bothSent (d .sendings)) l)) (gone-first ∙ sym gone-stored)
-              ∙ ap done (sym (send-without n (bothSent (d .sendings)) stored) ∙ without-at n after i nobody (rw same (k .sound .written .rising)) (after-within after same) at)
-              ∙ ap (λ (l : Line). done (removeAt i l)) posted
-            where
-              after-within : (after : Line) → numbers after ≡ numbers line → i < length after
-              after-within after e = rw (sym (length-map after number) ∙ ap length e ∙ length-map line number) (k .within)
+        -- the station stays
+        pub step-stays : d .gone ≡ false → step line x ≡ done both-posted
+        unfolding replace
+        step-stays e =
+            fits
+            ∙ ap (λ (g : Bool). done (sendAll (bothSent (d .sendings)) (replace (number here-is) (cond g none (some (record { station = d .station; bag = left }))) line))) e
+            ∙ ap (λ (l : Line). done (sendAll (bothSent (d .sendings)) l))
+            (change-at (number here-is) (λ (t : Site). record { station = d .station; bag = left }) line i nobody (k .sound .written .rising) (k .within) refl)
+            ∙ ap done posted
 
-              gone-first : without (number here-is) line ≡ removeAt i line
-              gone-first = without-at (number here-is) line i nobody (k .sound .written .rising) (k .within) refl
+        -- the station goes
+        pub step-leaves : d .gone ≡ true
+            → step line x ≡ done (removeAt i both-posted)
+        unfolding replace
+        step-leaves e =
+            let after = sendAll (bothSent (d .sendings)) stored in
+            let same : numbers after ≡ numbers line = send-numbers (bothSent (d .sendings)) stored ∙ stored-numbers in
+            let n = number here-is in
+            let at : number (place after i) ≡ n = sym (map-at number after i nobody 0 (after-within after same)) ∙ ap (λ (l : List ℕ). getD l i 0) same ∙ map-at number line i nobody 0 (k .within) in
+            fits
+            ∙ ap (λ (g : Bool). done (sendAll (bothSent (d .sendings)) (replace n (cond g none (some (record { station = d .station; bag = left }))) line))) e
+            ∙ ap (λ (l : Line). done (sendAll (bothSent (d .sendings)) l)) (gone-first ∙ sym gone-stored)
+            ∙ ap done (sym (send-without n (bothSent (d .sendings)) stored) ∙ without-at n after i nobody (rw same (k .sound .written .rising)) (after-within after same) at)
+            ∙ ap (λ (l : Line). done (removeAt i l)) posted
+          where
+            after-within : (after : Line) → numbers after ≡ numbers line → i < length after
+            after-within after e = rw (sym (length-map after number) ∙ ap length e ∙ length-map line number) (k .within)
 
-              gone-stored : without (number here-is) stored ≡ removeAt i line
-              gone-stored =
-                  without-at (number here-is) stored i nobody (rw stored-numbers (k .sound .written .rising)) stored-within (ap number stored-here ∙ named)
-                  ∙ remove-set line i (record { station = d .station; bag = held (d .bag) })
+            gone-first : without (number here-is) line ≡ removeAt i line
+            gone-first = without-at (number here-is) line i nobody (k .sound .written .rising) (k .within) refl
+
+            gone-stored : without (number here-is) stored ≡ removeAt i line
+            gone-stored =
+                without-at (number here-is) stored i nobody (rw stored-numbers (k .sound .written .rising)) stored-within (ap number stored-here ∙ named)
+                ∙ remove-set line i (record { station = d .station; bag = left })

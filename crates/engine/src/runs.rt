@@ -1,5 +1,6 @@
 // A step list run over a table (document 01, "The whole run").
 use crate::Ran;
+use arrays::first_slots;
 use arrays::order;
 use arrays::read_bags;
 use arrays::read_counts;
@@ -8,15 +9,15 @@ use arrays::read_stations;
 use arrays::write_line;
 use bag::Bag;
 use line::Reading;
-use moves::exits::drop_bag;
-use moves::exits::drop_count;
+use moves::exits::asked_of;
 use moves::exits::drop_number;
-use moves::exits::drop_station;
-use moves::exits::nidec;
+use moves::exits::drop_slot;
+use moves::exits::spares;
 use moves::sends::aim;
-use moves::sends::is_exit;
-use moves::sends::work_out;
+use moves::sends::draw;
+use moves::sends::refusal;
 use moves::steps::read_step;
+use rules::Sending;
 use table::check;
 use table::numbers::lookup;
 ghost use mathlib.Core.Path.{_≡_};
@@ -34,6 +35,7 @@ fn run_accepted(table: &[u8], steps: &[u8], room: &mut [u8]) -> Ran
     let mut stations = read_stations(table, order);
     let mut bags = read_bags(table, order);
     let mut counts = read_counts(table, order);
+    let mut slots = first_slots();
     let mut n = table.len() / 512;
     let total = steps.len() / 12;
     let mut answer: u32 = 0;
@@ -50,59 +52,81 @@ fn run_accepted(table: &[u8], steps: &[u8], room: &mut [u8]) -> Ran
             break;
         }
         let action = step.action;
-        let mut alone = false;
-        if is_exit(action) {
-            alone = nidec(stations, bags, counts, n, i);
+        let own = slots[i];
+        let station = stations[own];
+        let messages = bags[own];
+        let count = counts[own];
+        let asked = asked_of(action, n);
+        let mut j: usize = 0;
+        while j < asked {
+            let slot = slots[j];
+            let other = stations[slot];
+            let other_messages = bags[slot];
+            let other_count = counts[slot];
+            let other_bag = Bag {
+                messages: other_messages,
+                count: other_count,
+            };
+            if spares(station.number, other, other_bag) {
+                j += 1;
+            } else {
+                break;
+            }
         }
-        let station = stations[i];
-        let messages = bags[i];
-        let count = counts[i];
-        let bag = Bag { messages, count };
-        let aimed = aim(&numbers[..n], i, alone, station, bag, action);
+        let alone = (asked <= j) & (count == 0);
+        let drawn = draw(action, Bag { messages, count });
+        let aimed = aim(&numbers[..n], i, alone, drawn.found, station, action);
         let decision = aimed.decision;
-        let a = aimed.first;
-        let b = aimed.second;
-        let a_messages = bags[a];
-        let a_count = counts[a];
-        let a_bag = Bag {
-            messages: a_messages,
-            count: a_count,
-        };
-        let b_messages = bags[b];
-        let b_count = counts[b];
-        let b_bag = Bag {
-            messages: b_messages,
-            count: b_count,
-        };
-        let worked = work_out(decision, a_bag, b_bag);
-        if worked.answer != 0 {
-            answer = worked.answer;
+        let first = aimed.first;
+        let second = aimed.second;
+        let a = slots[first];
+        let b = slots[second];
+        let refused = refusal(decision, counts[a], counts[b]);
+        if refused != 0 {
+            answer = refused;
             break;
         }
         let after = decision.station;
-        let own = worked.own;
-        let first = worked.first;
-        let second = worked.second;
-        let own_row = own.messages;
-        let first_row = first.messages;
-        let second_row = second.messages;
-        stations[i] = after;
-        bags[i] = own_row;
-        counts[i] = own.count;
-        bags[a] = first_row;
-        counts[a] = first.count;
-        bags[b] = second_row;
-        counts[b] = second.count;
+        let rest = drawn.bag;
+        let rest_row = rest.messages;
+        stations[own] = after;
+        bags[own] = rest_row;
+        counts[own] = rest.count;
+        let sendings = decision.sendings;
+        let one = sendings.first;
+        let two = sendings.second;
+        if let Sending::To(_, a_message) = one {
+            let a_messages = bags[a];
+            let a_count = counts[a];
+            let a_bag = Bag {
+                messages: a_messages,
+                count: a_count,
+            };
+            let a_after = a_bag.put(a_message);
+            let a_row = a_after.messages;
+            bags[a] = a_row;
+            counts[a] = a_after.count;
+        }
+        if let Sending::To(_, b_message) = two {
+            let b_messages = bags[b];
+            let b_count = counts[b];
+            let b_bag = Bag {
+                messages: b_messages,
+                count: b_count,
+            };
+            let b_after = b_bag.put(b_message);
+            let b_row = b_after.messages;
+            bags[b] = b_row;
+            counts[b] = b_after.count;
+        }
         k += 1;
         if decision.gone {
             numbers = drop_number(numbers, n, i);
-            stations = drop_station(stations, n, i);
-            bags = drop_bag(bags, n, i);
-            counts = drop_count(counts, n, i);
+            slots = drop_slot(slots, n, i);
             n -= 1;
         }
     }
-    write_line(room, stations, bags, counts, n);
+    write_line(room, slots, stations, bags, counts, n);
     Ran {
         answer,
         done: k as u32,

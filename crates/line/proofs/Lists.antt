@@ -193,6 +193,28 @@ module _ {A : Type 0} (before : A → A → Bool) where
   sort-self [] h = refl
   sort-self (x ∷ l) h = rw (sort-self l (h .1)) (insert-front before x l (h .0))
 
+-- sorting goes with a map that keeps the order
+module _ {A B : Type 0} (f : A → B) (before : A → A → Bool) (below : B → B → Bool) where
+  pub insert-map : (a : A) (l : List A) → ((y : A) → Member y l → below (f y) (f a) ≡ before y a)
+      → map f (insert before a l) ≡ insert below (f a) (map f l)
+  unfolding insert
+  insert-map a [] h = refl
+  insert-map a (x ∷ l) h = rw (h x (here refl)) (go (before x a) (insert-map a l (λ y m. h y (there m))))
+    where
+      go : (b : Bool) → map f (insert before a l) ≡ insert below (f a) (map f l)
+          → map f (cond b (x ∷ insert before a l) (a ∷ x ∷ l)) ≡ cond b (f x ∷ insert below (f a) (map f l)) (f a ∷ f x ∷ map f l)
+      go true r = ap (λ (t : List B). f x ∷ t) r
+      go false r = refl
+
+module _ {A B : Type 0} (f : A → B) (below : B → B → Bool) where
+  abbrev pulled : A → A → Bool
+  pulled x y = below (f x) (f y)
+
+  pub sort-map : (l : List A) → map f (sort pulled l) ≡ sort below (map f l)
+  unfolding sort
+  sort-map [] = refl
+  sort-map (x ∷ l) = insert-map f pulled below x (sort pulled l) (λ y m. refl) ∙ ap (insert below (f x)) (sort-map l)
+
 -- removal of the first that passes
 module _ {A : Type 0} (f : A → Bool) where
   pub removed-mem : (l : List A) {y : A} → Member y (removeFirst f l) → Member y l

@@ -12,9 +12,9 @@ use lib.ListN.{length}
 use Rattle.line.specs.declared.Content.{Content}
 use Rattle.line.specs.declared.Content.the-variants.{Introduction, RemoveLeft, RemoveRight}
 use Rattle.line.specs.declared.Message.{Message}
-use Rattle.line.specs.Lists.{count, Ordered}
+use Rattle.line.specs.Lists.{count, Ordered, sort}
 use Rattle.line.specs.Message.{kind, carried, introduction, same, precedes, copies, holds, remove, put, capacity}
-use Rattle.line.proofs.Lists.{clash, and-both, both-and, or-none, or-cases, fails, any-true, true-any, counted, counts-one, insert-self, insert-keeps, insert-mem, insert-length, Order, insert-ordered, removed-mem, mem-removed, removed-length, removed-ordered}
+use Rattle.line.proofs.Lists.{clash, and-both, both-and, or-none, or-cases, fails, any-true, true-any, counted, counts-one, insert-self, insert-keeps, insert-mem, insert-length, Order, insert-ordered, sort-ordered, sort-count, removed-mem, mem-removed, removed-length, removed-ordered}
 
 -- a message is its kind and its number
 content-of : (c d : Content) → kind c ≡ kind d → carried c ≡ carried d → c ≡ d
@@ -164,3 +164,9 @@ same-bag (x ∷ b) (y ∷ c) p q e = go first (same-bag b c (p .1) (q .1) rest)
 
     go : x ≡ y → b ≡ c → (x ∷ b) ≡ (y ∷ c)
     go h k = cc
+
+-- so the written order of a bag depends on its copies alone
+pub same-sort : (b c : List Message) → ((m : Message) → copies m b ≡ copies m c) → sort precedes b ≡ sort precedes c
+same-sort b c e =
+    same-bag (sort precedes b) (sort precedes c) (sort-ordered precedes precedes-order b) (sort-ordered precedes precedes-order c)
+    (λ m. sort-count precedes (same m) b ∙ e m ∙ sym (sort-count precedes (same m) c))

@@ -1,6 +1,5 @@
 -- What the proofs of the parts of a step share.
 pub mod StepWays
-pub mod Rows
 pub mod NidecWays
 pub mod Dropping
 pub mod SendWays

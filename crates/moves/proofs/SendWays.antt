@@ -8,15 +8,18 @@ use lib.Dec.{eqb, ltb}
 use lib.ListN.{length}
 use native.Mathlib.Omega.{arith}
 use borrow.Author.Tests.{eq-eqb, ne-eqb, eqb-false, lt-ltb, le-ltb, ltb-true}
+use Rattle.line.specs.declared.Action.{Action}
+use Rattle.line.specs.declared.Action.the-variants.{Timeout, Deliver, Exit}
 use Rattle.line.specs.declared.Message.{Message}
 use Rattle.line.proofs.Lists.{and-both}
 use Rattle.bag.specs.declared.Bag.{Bag}
+use Rattle.bag.specs.declared.Taken.{Taken}
 use Rattle.bag.specs.Places.{firstAt}
-use Rattle.bag.specs.Changes.{Put}
+use Rattle.bag.specs.Changes.{Took}
 use Rattle.rules.specs.declared.Sending.{Sending}
-use Rattle.rules.specs.declared.Sending.the-variants.{Nothing, To}
+use Rattle.rules.specs.declared.Sending.the-variants.{To}
 use Rattle.rules.specs.declared.Decision.{Decision}
-use Rattle.moves.specs.Sends.{verdictNumber, receiverOf, roomFor, answerOf, Arrives}
+use Rattle.moves.specs.Sends.{verdictNumber, receiverOf, roomFor, answerOf, Draws}
 
 -- who receives
 module _ (l : List ℕ) (x : Sending) (i j q : ℕ) (m : Message) where
@@ -26,22 +29,26 @@ module _ (l : List ℕ) (x : Sending) (i j q : ℕ) (m : Message) where
   pub receiver-absent : x ≡ To q m → j ≡ firstAt (eqb q) l → length l ≤ j → i ≡ receiverOf l x i
   receiver-absent e f h = rw (e, ← f, le-ltb j (length l) h)
 
--- whether there is room, and what arrives
-pub arrives-itself : (x : Sending) → x ≡ Nothing → (own there : Bag) → Arrives x own there own
-arrives-itself x e own there = rw e (record { held-is = refl; counted = refl })
-
+-- whether there is room
 module _ (x : Sending) (q : ℕ) (m : Message) where
-  pub room-sent : x ≡ To q m → (b : Bag) → ltb (b .count) 32 ≡ roomFor x b
-  room-sent e b = rw e
+  pub room-sent : x ≡ To q m → (c : ℕ) → ltb c 32 ≡ roomFor x c
+  room-sent e c = rw e
 
-  pub sent-fits : x ≡ To q m → (b : Bag) → roomFor x b ≡ true → b .count < 32
-  sent-fits e b h = ltb-true (b .count) 32 (room-sent e b ∙ h)
+  pub sent-fits : x ≡ To q m → (c : ℕ) → roomFor x c ≡ true → c < 32
+  sent-fits e c h = ltb-true c 32 (room-sent e c ∙ h)
 
-  pub arrives-put : x ≡ To q m → (own there r : Bag) → Put there m r → Arrives x own there r
-  arrives-put e own there r p = rw e (record { held-is = p .held-is; counted = p .counted })
+-- what a step leaves of the station's own bag
+pub draws-timeout : (a : Action) → a ≡ Timeout → (own : Bag) → Draws a own (record { bag = own; found = false })
+draws-timeout a e own = rw e (record { found-is = refl; ordered-is = refl; counted = λ h. h })
+
+pub draws-exit : (a : Action) → a ≡ Exit → (own : Bag) → Draws a own (record { bag = own; found = false })
+draws-exit a e own = rw e (record { found-is = refl; ordered-is = refl; counted = λ h. h })
+
+pub draws-taken : (a : Action) (m : Message) → a ≡ Deliver m → (own : Bag) (r : Taken) → Took own m r → Draws a own r
+draws-taken a m e own r t = rw e (record { found-is = t .found-is; ordered-is = t .ordered-is; counted = λ h. t .counted })
 
 -- the answer
-module _ (d : Decision) (a b : Bag) (n : ℕ) (e : n ≡ verdictNumber (d .verdict)) where
+module _ (d : Decision) (a b : ℕ) (n : ℕ) (e : n ≡ verdictNumber (d .verdict)) where
   pub answer-refused : n ≢ 0 → n ≡ answerOf d a b
   answer-refused h = rw (← e, ne-eqb n 0 h)
 
@@ -56,7 +63,7 @@ module _ (d : Decision) (a b : Bag) (n : ℕ) (e : n ≡ verdictNumber (d .verdi
     answer-full h = by-room false h
 
 -- an answer of 0 says that both have room
-pub both-fit : (d : Decision) (a b : Bag) → answerOf d a b ≡ 0 → (roomFor (d .sendings .first) a ≡ true) × (roomFor (d .sendings .second) b ≡ true)
+pub both-fit : (d : Decision) (a b : ℕ) → answerOf d a b ≡ 0 → (roomFor (d .sendings .first) a ≡ true) × (roomFor (d .sendings .second) b ≡ true)
 both-fit d a b e = and-both _ _ (go (verdictNumber (d .verdict)) (roomFor (d .sendings .first) a && roomFor (d .sendings .second) b) e)
   where
     go : (n : ℕ) (t : Bool) → cond (eqb n 0) (cond t 0 15) n ≡ 0 → t ≡ true

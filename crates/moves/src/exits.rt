@@ -1,20 +1,20 @@
-// What an exit needs of the whole line: whether NIDEC holds, and a place taken out of each array (document 01, "What a step does at
+// What an exit needs of the whole line: whether a station names another, and a place taken out of an array (document 01, "What a step does at
 // station p").
 use bag::Bag;
+use line::Action;
 use line::Content;
 use line::Message;
 use line::Neighbour;
 use line::Station;
 ghost use mathlib.Core.Path.{_≡_};
-ghost use mathlib.Core.Bool.{_||_, not};
+ghost use mathlib.Core.Bool.{cond, _||_, not};
 ghost use Prim.Native.Nat.{_-_, _<_, _≤_};
 ghost use lib.Dec.{eqb};
 ghost use lib.ListN.{take};
 ghost use Rattle.line.specs.Nidec as spec;
-ghost use Rattle.bag.specs.Held.{held};
+ghost use Rattle.bag.specs.Held.{ordered};
 ghost use Rattle.bag.specs.Places.{removeAt};
-ghost use Rattle.arrays.specs.Arrays.{lineIn};
-ghost use Rattle.moves.specs.Places.{siteAt};
+ghost use Rattle.moves.specs.Sends.{isExit};
 
 pub fn is_neighbour(p: u32, n: Neighbour) -> bool
     ensures { λ r. ⌜ r ≡ spec.isNeighbour p n ⌝ }
@@ -27,7 +27,7 @@ pub fn is_neighbour(p: u32, n: Neighbour) -> bool
 
 // Whether a station has p as a neighbour or as an introduction in its bag.
 fn names(p: u32, s: Station, bag: Bag) -> bool
-    ensures { λ r. ⌜ r ≡ spec.names p (record { station = s; bag = held bag }) ⌝ }
+    ensures { λ r. ⌜ r ≡ spec.names p (record { station = s; bag = ordered bag }) ⌝ }
 {
     let left = s.left;
     let right = s.right;
@@ -43,8 +43,8 @@ fn names(p: u32, s: Station, bag: Bag) -> bool
 }
 
 // A station that is p itself, or does not name p.
-fn spares(p: u32, s: Station, bag: Bag) -> bool
-    ensures { λ r. ⌜ r ≡ (eqb (s .number) p || not (spec.names p (record { station = s; bag = held bag }))) ⌝ }
+pub fn spares(p: u32, s: Station, bag: Bag) -> bool
+    ensures { λ r. ⌜ r ≡ (eqb (s .number) p || not (spec.names p (record { station = s; bag = ordered bag }))) ⌝ }
 {
     if s.number == p {
         return true;
@@ -52,33 +52,15 @@ fn spares(p: u32, s: Station, bag: Bag) -> bool
     if names(p, s, bag) { false } else { true }
 }
 
-// Whether NIDEC holds for the station at place i.
-pub fn nidec(
-    stations: [Station; 64],
-    bags: [[Message; 32]; 64],
-    counts: [usize; 64],
-    n: usize,
-    i: usize,
-) -> bool
-    requires { ⌜ (i < n) × (n ≤ 64) ⌝ }
-    ensures { λ r. ⌜ r ≡ spec.nidec (lineIn n stations bags counts) (siteAt stations bags counts i) ⌝ }
+// Whether NIDEC is to be asked, and of how many stations: an exit asks all n, any other step none.
+pub fn asked_of(action: Action, n: usize) -> usize
+    ensures { λ r. ⌜ r ≡ cond (isExit action) n 0 ⌝ }
 {
-    if counts[i] != 0 {
-        return false;
+    match action {
+        Action::Timeout => 0,
+        Action::Deliver(_) => 0,
+        Action::Exit => n,
     }
-    let p = stations[i].number;
-    let mut j = 0;
-    while j < n {
-        let s = stations[j];
-        let messages = bags[j];
-        let count = counts[j];
-        if spares(p, s, Bag { messages, count }) {
-            j += 1;
-        } else {
-            return false;
-        }
-    }
-    true
 }
 
 // Without place i of the first n: what stood after it goes one place down. One function for each array, since a function takes one
@@ -98,46 +80,16 @@ pub fn drop_number(numbers: [u32; 64], n: usize, i: usize) -> [u32; 64]
     kept
 }
 
-pub fn drop_count(counts: [usize; 64], n: usize, i: usize) -> [usize; 64]
+pub fn drop_slot(slots: [usize; 64], n: usize, i: usize) -> [usize; 64]
     requires { ⌜ (i < n) × (n ≤ 64) ⌝ }
-    ensures { λ r. ⌜ take (n - 1) r ≡ removeAt i (take n counts) ⌝ }
+    ensures { λ r. ⌜ take (n - 1) r ≡ removeAt i (take n slots) ⌝ }
 {
-    let mut kept = counts;
+    let mut kept = slots;
     let last = n - 1;
     let mut j = i;
     while j < last {
-        let count = kept[j + 1];
-        kept[j] = count;
-        j += 1;
-    }
-    kept
-}
-
-pub fn drop_station(stations: [Station; 64], n: usize, i: usize) -> [Station; 64]
-    requires { ⌜ (i < n) × (n ≤ 64) ⌝ }
-    ensures { λ r. ⌜ take (n - 1) r ≡ removeAt i (take n stations) ⌝ }
-{
-    let mut kept = stations;
-    let last = n - 1;
-    let mut j = i;
-    while j < last {
-        let station = kept[j + 1];
-        kept[j] = station;
-        j += 1;
-    }
-    kept
-}
-
-pub fn drop_bag(bags: [[Message; 32]; 64], n: usize, i: usize) -> [[Message; 32]; 64]
-    requires { ⌜ (i < n) × (n ≤ 64) ⌝ }
-    ensures { λ r. ⌜ take (n - 1) r ≡ removeAt i (take n bags) ⌝ }
-{
-    let mut kept = bags;
-    let last = n - 1;
-    let mut j = i;
-    while j < last {
-        let row = kept[j + 1];
-        kept[j] = row;
+        let slot = kept[j + 1];
+        kept[j] = slot;
         j += 1;
     }
     kept

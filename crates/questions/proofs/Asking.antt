@@ -27,9 +27,9 @@ use Rattle.table.specs.Fault.{faultOf}
 use Rattle.table.proofs.Accepting.{table-accepted}
 use Rattle.table.proofs.NumberLaws.{found-member, found-there}
 use Rattle.arrays.specs.Order.{stationsOf, numbersOf}
-use Rattle.arrays.proofs.Sites.{filled-at, line-at}
+use Rattle.arrays.proofs.Sites.{line-size, filled-at, line-at}
 use Rattle.effects.proofs.OnePlace.{find-at, find-nowhere}
-use Rattle.effects.proofs.Starting.{line-size, numbers-read}
+use Rattle.effects.proofs.Starting.{numbers-read}
 use Rattle.questions.specs.declared.Told.{Told}
 use Rattle.questions.specs.declared.Told.the-variants.{Refused}
 use Rattle.questions.specs.Told.{yesNo, asked, leaveAt}
@@ -97,10 +97,10 @@ module _ (t : List ℕ) (clean : faultOf t ≡ 0) where
     at = e ∙ ap (firstAt (eqb q)) (numbers-read t clean)
 
     pub leave-absent : n ≤ i → Refused 11 ≡ leaveAt (lineOf t) (find q (lineOf t))
-    leave-absent h = rw (absent (lineOf t) q i at (omega (arith, line-size t clean)))
+    leave-absent h = rw (absent (lineOf t) q i at (omega (arith, line-size t)))
 
     pub leave-found : i < n → {b : Bool} → b ≡ nidec (lineOf t) (getD (lineOf t) i nobody) → yesNo b ≡ leaveAt (lineOf t) (find q (lineOf t))
-    leave-found h k = rw (k, found (lineOf t) q i at (table-accepted t clean .2 .rising) (omega (arith, line-size t clean)))
+    leave-found h k = rw (k, found (lineOf t) q i at (table-accepted t clean .2 .rising) (omega (arith, line-size t)))
 
   -- whether the table is in line: the station at a place, and the first from there on
   module _ {stations : List declared.Station} (read : stations ≡ stationsOf t) where
@@ -117,15 +117,15 @@ module _ (t : List ℕ) (clean : faultOf t ≡ 0) where
         go : (b : Bool) → ltb i n ≡ b → first (drop i (lineOf t)) ≡ cond b (Station (station i .number)) None
         go true e =
             let h = ltb-true i n e in
-            first-some (lineOf t) i (omega (arith, line-size t clean)) ∙ ap (λ (s : declared.Station). Station (s .number)) (sym (station-at i h))
-        go false e = first-none (lineOf t) i (omega (arith, line-size t clean, ltb-false i n e))
+            first-some (lineOf t) i (omega (arith, line-size t)) ∙ ap (λ (s : declared.Station). Station (s .number)) (sym (station-at i h))
+        go false e = first-none (lineOf t) i (omega (arith, line-size t, ltb-false i n e))
 
     -- the station at place i stands or does not: b, with what the code found of it
     module _ {before : Neighbour} {i : ℕ} (so-far : StandTo t before i) (h : i < n) {after : Neighbour} (a : after ≡ cond (ltb (i + 1) n) (Station (station (i + 1) .number)) None)
         {b : Bool} (k : b ≡ (isSame (station i .left) before && isSame (station i .right) after)) where
       next : inLine (lineOf t) ≡ (b && inLineAfter (Station (station i .number)) (drop (i + 1) (lineOf t)))
       next =
-          so-far .is ∙ from-here (lineOf t) before i (omega (arith, line-size t clean)) ∙ rw (k, a, ← (first-at (i + 1)), station-at i h)
+          so-far .is ∙ from-here (lineOf t) before i (omega (arith, line-size t)) ∙ rw (k, a, ← (first-at (i + 1)), station-at i h)
 
       pub stand-next : b ≡ true → StandTo t (Station (station i .number)) (i + 1)
       stand-next y = record { within = omega arith; is = next ∙ rw y }
@@ -134,4 +134,4 @@ module _ (t : List ℕ) (clean : faultOf t ≡ 0) where
       stand-not y = sym (next ∙ rw y)
 
   pub stand-all : {before : Neighbour} {i : ℕ} → StandTo t before i → n ≤ i → true ≡ inLine (lineOf t)
-  stand-all {before} {i} so-far h = sym (so-far .is ∙ at-end (lineOf t) before i (omega (arith, line-size t clean)))
+  stand-all {before} {i} so-far h = sym (so-far .is ∙ at-end (lineOf t) before i (omega (arith, line-size t)))

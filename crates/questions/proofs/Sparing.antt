@@ -1,30 +1,42 @@
--- NIDEC asked of the blocks: the counted places of a block one after another, then the blocks in written order, of which the first j
--- spare p.
+-- NIDEC asked of the blocks: the counted places of a block one after another, then the blocks in written order.
 use Prim.Native.Nat.{ℕ, zero, suc, _+_, _/_, _≤_, _<_}
 use mathlib.Core.Path.{_≡_, refl, sym, ap, _∙_}
 use mathlib.Core.Logic.{⊎-elim}
-use mathlib.Core.Bool.{Bool, true, false, not, _&&_, _||_, or-false, or-true, or-assoc}
+use mathlib.Core.Bool.{Bool, true, false, _&&_, _||_, or-false, or-true, or-assoc}
 use mathlib.Core.List.{List, [], _∷_, _++_}
 use native.Mathlib.Nat.{le-of-suc-le-suc, not-suc-le-zero, eq-or-lt-of-le}
 use native.Mathlib.Numerals.{add-one}
 use native.Mathlib.Omega.{arith}
 use lib.Dec.{eqb}
-use lib.ListN.{length, getD, drop, drop-of-length-le}
-use lib.Seq.{drop-cons}
+use lib.ListN.{length, getD}
+use borrow.Author.Tests.{eq-eqb, ne-eqb}
+use Rattle.line.specs.declared.Content.the-variants.{Introduction}
 use Rattle.line.specs.declared.Message.{Message}
+use Rattle.line.specs.declared.Side.{Side}
+use Rattle.line.specs.declared.Side.the-variants.{Left, Right}
 use Rattle.line.specs.Lists.{all, any}
-use Rattle.line.specs.Message.{introduction, same, precedes}
-use Rattle.line.specs.Site.{Site, Line, number, withBagInOrder}
-use Rattle.line.specs.Nidec.{names, isEmpty, nidec}
+use Rattle.line.specs.Message.{introduction, removal, same, precedes}
+use Rattle.line.specs.Site.{Site, withBagInOrder}
+use Rattle.line.specs.Nidec.{names, nidec}
 use Rattle.line.proofs.Lists.{sort-length, sort-any}
 use Rattle.block.specs.Layout.{placeAt, messageOf, messages, siteOf}
 use Rattle.block.specs.Said.{nobody}
 use Rattle.block.proofs.PlaceLaws.{length-messages}
 use Rattle.table.specs.Blocks.{blockAt, lineOf}
-use Rattle.table.specs.Fault.{faultOf}
 use Rattle.arrays.specs.Order.{numberOf, countOf, orderArray}
-use Rattle.arrays.proofs.Sites.{line-at}
-use Rattle.effects.proofs.Starting.{line-size}
+use Rattle.arrays.proofs.Sites.{line-size, line-at}
+use Rattle.moves.proofs.NidecWays.{spared, SparedTo, spared-next, spared-not, spared-all, nidec-asked, empty-counted}
+
+-- An introduction of p is known by its content.
+module _ (p : ℕ) (m : Message) where
+  pub is-introduced : (q : ℕ) → m .content ≡ Introduction q → eqb p q ≡ same (introduction p) m
+  unfolding same
+  is-introduced q e = rw e
+
+  pub is-removal : (side : Side) → m .content ≡ (removal side) .content → false ≡ same (introduction p) m
+  unfolding same removal
+  is-removal Left e = rw e
+  is-removal Right e = rw e
 
 -- Whether some of the first n messages passes a test.
 any-append : {A : Type 0} (f : A → Bool) (a b : List A) → any f (a ++ b) ≡ (any f a || any f b)
@@ -53,42 +65,12 @@ module _ (f : Message → Bool) (b : List ℕ) where
       (λ (p : i < n). rw (any-found i n p e))
       (eq-or-lt-of-le (le-of-suc-le-suc h))
 
--- A site is p itself, or does not name p; the order of its bag plays no part.
-abbrev pub spared : ℕ → Site → Bool
-spared p s = eqb (number s) p || not (names p s)
-
+-- The order of a bag plays no part.
 spared-in-order : (p : ℕ) (s : Site) → spared p (withBagInOrder s) ≡ spared p s
 unfolding names withBagInOrder
 spared-in-order p s = rw (sort-any precedes (same (introduction p)) (s .bag))
 
--- A bag is empty where the count is 0.
-empty-none : (l : List Message) → length l ≡ 0 → isEmpty l ≡ true
-unfolding isEmpty
-empty-none [] e = refl
-empty-none (m ∷ l) e = absurd (omega arith)
-
-empty-some : (l : List Message) → (length l ≡ 0 → ⊥) → isEmpty l ≡ false
-unfolding isEmpty
-empty-some [] h = absurd (h refl)
-empty-some (m ∷ l) h = refl
-
-all-next : (f : Site → Bool) (l : Line) (j : ℕ) → j < length l → all f (drop j l) ≡ (f (getD l j nobody) && all f (drop (j + 1) l))
-unfolding all
-all-next f l j h = rw (drop-cons l j nobody h, add-one)
-
-all-none : (f : Site → Bool) (l : Line) (j : ℕ) → length l ≤ j → all f (drop j l) ≡ true
-unfolding all
-all-none f l j h = rw (drop-of-length-le l h)
-
--- the first j blocks spare p, so those from j on settle it
-pub record SparedTo (t : List ℕ) (p j : ℕ) : Type 0 where
-  pub within : j ≤ length t / 512
-  pub is : all (spared p) (lineOf t) ≡ all (spared p) (drop j (lineOf t))
-
-pub spared-none : {t : List ℕ} {p : ℕ} → SparedTo t p 0
-spared-none = record { within = omega arith; is = refl }
-
-module _ (t order : List ℕ) (clean : faultOf t ≡ 0) (e : order ≡ orderArray t) where
+module _ (t order : List ℕ) (e : order ≡ orderArray t) where
   -- the block of a place
   abbrev block : ℕ → List ℕ
   block i = blockAt t (getD order i 0)
@@ -96,36 +78,36 @@ module _ (t order : List ℕ) (clean : faultOf t ≡ 0) (e : order ≡ orderArra
   site-at : (i : ℕ) → i < length t / 512 → getD (lineOf t) i nobody ≡ withBagInOrder (siteOf (block i))
   site-at i h = rw e (line-at t i h nobody)
 
-  module _ {p j : ℕ} (so-far : SparedTo t p j) where
+  module _ {p j : ℕ} (so-far : SparedTo p (lineOf t) j) where
     -- b, whether the block at place j spares p
     module _ (h : j < length t / 512) {b : Bool} (k : b ≡ spared p (siteOf (block j))) where
-      next : all (spared p) (lineOf t) ≡ (b && all (spared p) (drop (j + 1) (lineOf t)))
-      next =
-          so-far .is ∙ all-next (spared p) (lineOf t) j (omega (arith, line-size t clean))
-          ∙ ap (λ (x : Bool). x && all (spared p) (drop (j + 1) (lineOf t))) (ap (spared p) (site-at j h) ∙ spared-in-order p (siteOf (block j)) ∙ sym k)
+      here-is : spared p (getD (lineOf t) j nobody) ≡ b
+      here-is = ap (spared p) (site-at j h) ∙ spared-in-order p (siteOf (block j)) ∙ sym k
 
-      pub spared-next : b ≡ true → SparedTo t p (j + 1)
-      spared-next y = record { within = omega arith; is = next ∙ rw y }
+      pub block-spares : b ≡ true → SparedTo p (lineOf t) (j + 1)
+      block-spares y = spared-next so-far (omega (arith, line-size t)) (here-is ∙ y)
 
-      pub spared-not : b ≡ false → false ≡ all (spared p) (lineOf t)
-      spared-not y = sym (next ∙ rw y)
+      pub block-names : b ≡ false → false ≡ all (spared p) (lineOf t)
+      block-names y = sym (spared-not so-far (omega (arith, line-size t)) (here-is ∙ y))
 
-    pub spared-all : length t / 512 ≤ j → true ≡ all (spared p) (lineOf t)
-    spared-all h = sym (so-far .is ∙ all-none (spared p) (lineOf t) j (omega (arith, line-size t clean)))
+    pub blocks-spare : length t / 512 ≤ j → true ≡ all (spared p) (lineOf t)
+    blocks-spare h = sym (spared-all so-far (omega (arith, line-size t)))
 
   -- NIDEC for the station at place i
   module _ (i : ℕ) (h : i < length t / 512) where
-    bag-size : (b : List ℕ) → length ((withBagInOrder (siteOf b)) .bag) ≡ countOf b
+    bag-size : (b : List ℕ) → countOf b ≡ length ((withBagInOrder (siteOf b)) .bag)
     unfolding withBagInOrder siteOf
-    bag-size b = sort-length precedes (messages b (countOf b)) ∙ length-messages b (countOf b)
+    bag-size b = sym (sort-length precedes (messages b (countOf b)) ∙ length-messages b (countOf b))
+
+    own-asked : (b : Bool) → all (spared (numberOf (block i))) (lineOf t) ≡ b → nidec (lineOf t) (getD (lineOf t) i nobody) ≡ (eqb (countOf (block i)) 0 && b)
+    unfolding withBagInOrder
+    own-asked b k =
+        let s = withBagInOrder (siteOf (block i)) in
+        rw (site-at i h) (nidec-asked (lineOf t) s b k) ∙ ap (λ (c : Bool). c && b) (empty-counted (s .bag) (countOf (block i)) (bag-size (block i)))
 
     pub bag-holds : (countOf (block i) ≡ 0 → ⊥) → false ≡ nidec (lineOf t) (getD (lineOf t) i nobody)
-    unfolding nidec
-    bag-holds z =
-        rw (site-at i h, empty-some ((withBagInOrder (siteOf (block i))) .bag) (λ y. z (sym (bag-size (block i)) ∙ y)))
+    bag-holds z = sym (own-asked (all (spared (numberOf (block i))) (lineOf t)) refl ∙ rw (ne-eqb (countOf (block i)) 0 z))
 
     pub bag-empty : countOf (block i) ≡ 0 → {p : ℕ} → p ≡ numberOf (block i) → {b : Bool} → b ≡ all (spared p) (lineOf t)
         → b ≡ nidec (lineOf t) (getD (lineOf t) i nobody)
-    unfolding nidec withBagInOrder
-    bag-empty z q k =
-        rw (site-at i h, empty-none ((withBagInOrder (siteOf (block i))) .bag) (bag-size (block i) ∙ z)) (rw q at k)
+    bag-empty z q {b} k = sym (own-asked b (sym (rw q at k)) ∙ rw (eq-eqb (countOf (block i)) 0 z))

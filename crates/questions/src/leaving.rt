@@ -1,7 +1,6 @@
 // Whether a station may leave, read from the blocks where they lie (document 01, "What a step does at station p"): "NIDEC holds for p
 // when p's bag is empty and no other station has p as a neighbour or as an introduction in its bag."
 use arrays::block_at;
-use bag::same;
 use block::places::message_of;
 use block::places::place_at;
 use block::station_of;
@@ -16,7 +15,7 @@ ghost use Prim.Native.Nat.{_/_, _≤_, _<_};
 ghost use lib.Dec.{eqb};
 ghost use lib.ListN.{length, getD};
 ghost use Rattle.line.specs.Lists.{all};
-ghost use Rattle.line.specs.Message.{introduction, holds};
+ghost use Rattle.line.specs.Message.{introduction, same, holds};
 ghost use Rattle.line.specs.Site.{Site, number};
 ghost use Rattle.line.specs.Nidec as spec;
 ghost use Rattle.octets.specs.Bytes.{word};
@@ -26,18 +25,27 @@ ghost use Rattle.table.specs.Blocks.{lineOf};
 ghost use Rattle.table.specs.Fault.{faultOf};
 ghost use Rattle.arrays.specs.Order.{InOrder};
 
+// Whether a message is an introduction of p.
+fn is_introduction(p: u32, message: Message) -> bool
+    ensures { λ r. ⌜ r ≡ same (introduction p) message ⌝ }
+{
+    let content = message.content;
+    match content {
+        Content::Introduction(q) => p == q,
+        Content::RemoveLeft => false,
+        Content::RemoveRight => false,
+    }
+}
+
 // Whether a counted place of a block introduces p.
 fn introduces(b: &[u8], p: u32) -> bool
     requires { ⌜ (length (now b) ≡ 512) × (word (now b) 16 ≤ 32) ⌝ }
     ensures { λ r. ⌜ r ≡ holds (introduction p) (messages (now (b .entry)) (word (now (b .entry)) 16)) ⌝ }
 {
-    let sought = Message {
-        content: Content::Introduction(p),
-    };
     let n = word_at(b, 16) as usize;
     let mut i = 0;
     while i < n {
-        if same(sought, message_of(place_at(b, i))) {
+        if is_introduction(p, message_of(place_at(b, i))) {
             return true;
         }
         i += 1;

@@ -20,17 +20,13 @@ use Rattle.line.specs.Answer.{refused, done, require}
 use Rattle.line.specs.Message.{introduction, removal, holds, remove}
 use Rattle.line.specs.Site.{opposite, beyond, sideOf, neighbour, withNeighbour}
 use Rattle.line.specs.Act.{Send, sendTo, notice, timeout, Reaction, unchanged, meet, introduced, dropNeighbour, obeys, removed, received, introduceBoth, kept, act}
-use Rattle.bag.specs.declared.Bag.{Bag}
-use Rattle.bag.specs.declared.Taken.{Taken}
-use Rattle.bag.specs.Held.{held}
-use Rattle.bag.specs.Changes.{Took}
 use Rattle.rules.specs.declared.Sending.{Sending}
 use Rattle.rules.specs.declared.Sending.the-variants.{Nothing, To}
 use Rattle.rules.specs.declared.Sendings.{Sendings}
 use Rattle.rules.specs.declared.Reacted.{Reacted}
 use Rattle.rules.specs.declared.Verdict.the-variants.{Done, Refused}
 use Rattle.rules.specs.declared.Decision.{Decision}
-use Rattle.rules.specs.Decided.{sent, bothSent, reaction, effect, decided, Decides}
+use Rattle.rules.specs.Decided.{sent, bothSent, reaction, rest, effect, decided, Decides}
 
 module _ (p : declared.Station) (d o : Side) (m : Message) where
   pub notice-leaving : p .leaving ≡ true → o ≡ opposite d → m ≡ removal o → m ≡ notice p d
@@ -111,51 +107,47 @@ module _ (x : Sendings) (a b : Neighbour) (l r : ℕ) (m k : Message) where
 stays : {t : Bool} {C : Type 0} → t ≡ false → t ≡ true → C
 stays e h = absurd (let z : _≡_ {A = ℕ} 0 1 = cc in omega arith)
 
-module _ (alone : Bool) (s : declared.Station) (b : Bag) (d : Decision) where
-  -- a refusal keeps the bag
-  refuses : (r : Refusal) {a : Action} → d .verdict ≡ Refused r → d .bag ≡ b → d .gone ≡ false → act alone (record { station = s; bag = held b }) a ≡ refused r → Decides alone s b a d
-  refuses r e f k g = record { says = ap (λ v. decided v (effect d)) e ∙ sym g; counted = λ h. rw f h; itself = stays k }
+module _ (alone : Bool) (s : declared.Station) (b : List Message) (d : Decision) where
+  refuses : (r : Refusal) {a : Action} → d .verdict ≡ Refused r → d .gone ≡ false → act alone (record { station = s; bag = b }) a ≡ refused r → Decides alone s b a d
+  refuses r {a} e k g = record { says = ap (λ v. decided v (effect d (rest a b))) e ∙ sym g; itself = stays k }
 
-  pub not-in-bag : (m : Message) → holds m (held b) ≡ false → d .verdict ≡ Refused NotInBag → d .bag ≡ b → d .gone ≡ false → Decides alone s b (Deliver m) d
+  pub not-in-bag : (m : Message) → holds m b ≡ false → d .verdict ≡ Refused NotInBag → d .gone ≡ false → Decides alone s b (Deliver m) d
   unfolding act require
-  not-in-bag m h e f k = refuses NotInBag e f k (rw h)
+  not-in-bag m h e k = refuses NotInBag e k (rw h)
 
-  pub staying : s .leaving ≡ false → d .verdict ≡ Refused Staying → d .bag ≡ b → d .gone ≡ false → Decides alone s b Exit d
+  pub staying : s .leaving ≡ false → d .verdict ≡ Refused Staying → d .gone ≡ false → Decides alone s b Exit d
   unfolding act require
-  staying h e f k = refuses Staying e f k (ap (λ t. require t Staying (require alone Held (done (record { after = none; sends = introduceBoth (s .left) (s .right) })))) h)
+  staying h e k = refuses Staying e k (ap (λ t. require t Staying (require alone Held (done (record { after = none; sends = introduceBoth (s .left) (s .right) })))) h)
 
-  pub held-back : s .leaving ≡ true → alone ≡ false → d .verdict ≡ Refused Held → d .bag ≡ b → d .gone ≡ false → Decides alone s b Exit d
+  pub held-back : s .leaving ≡ true → alone ≡ false → d .verdict ≡ Refused Held → d .gone ≡ false → Decides alone s b Exit d
   unfolding act require
-  held-back h i e f k =
-      refuses Held e f k (ap₂ (λ (t u : Bool). require t Staying (require u Held (done (record { after = none; sends = introduceBoth (s .left) (s .right) })))) h i)
+  held-back h i e k =
+      refuses Held e k (ap₂ (λ (t u : Bool). require t Staying (require u Held (done (record { after = none; sends = introduceBoth (s .left) (s .right) })))) h i)
 
 -- what is done
-module _ (alone : Bool) (s : declared.Station) (b : Bag) where
+module _ (alone : Bool) (s : declared.Station) (b : List Message) where
   pub exits : (p : Sendings) → s .leaving ≡ true → alone ≡ true → bothSent p ≡ introduceBoth (s .left) (s .right)
-      → Decides alone s b Exit (record { verdict = Done; gone = true; station = s; bag = b; sendings = p })
+      → Decides alone s b Exit (record { verdict = Done; gone = true; station = s; sendings = p })
   unfolding act require
   exits p h k e = record {
     says = ap (λ (l : List Send). done (record { after = none; sends = l })) e
         ∙ sym (ap₂ (λ (t u : Bool). require t Staying (require u Held (done (record { after = none; sends = introduceBoth (s .left) (s .right) })))) h k);
-    counted = λ x. x;
     itself = λ z. refl;
   }
 
-  pub times-out : (p : Sendings) → bothSent p ≡ timeout s → Decides alone s b Timeout (record { verdict = Done; gone = false; station = s; bag = b; sendings = p })
+  pub times-out : (p : Sendings) → bothSent p ≡ timeout s → Decides alone s b Timeout (record { verdict = Done; gone = false; station = s; sendings = p })
   unfolding act
   times-out p e = record {
-    says = ap (λ (l : List Send). done (record { after = some (record { station = s; bag = held b }); sends = l })) e;
-    counted = λ x. x;
+    says = ap (λ (l : List Send). done (record { after = some (record { station = s; bag = b }); sends = l })) e;
     itself = λ z. refl;
   }
 
-  pub delivers : (m : Message) (t : Taken) (r : Reacted) → Took b m t → t .found ≡ true → reaction r ≡ received s (m .content)
-      → Decides alone s b (Deliver m) (record { verdict = Done; gone = false; station = r .station; bag = t .bag; sendings = record { first = r .sending; second = Nothing } })
+  pub delivers : (m : Message) (r : Reacted) → holds m b ≡ true → reaction r ≡ received s (m .content)
+      → Decides alone s b (Deliver m) (record { verdict = Done; gone = false; station = r .station; sendings = record { first = r .sending; second = Nothing } })
   unfolding act require
-  delivers m t r k f e = record {
-    says = ap₂ (λ (u : Reaction) (b : List Message). done (record { after = some (record { station = u .station; bag = b }); sends = u .sends })) (sends-one ∙ e) (k .held-is)
-        ∙ sym (ap (λ (h : Bool). require h NotInBag (done (kept (remove m (held b)) (received s (m .content))))) (sym (k .found-is) ∙ f));
-    counted = λ x. k .counted;
+  delivers m r f e = record {
+    says = ap (λ (u : Reaction). done (record { after = some (record { station = u .station; bag = remove m b }); sends = u .sends })) (sends-one ∙ e)
+        ∙ sym (ap (λ (h : Bool). require h NotInBag (done (kept (remove m b) (received s (m .content))))) f);
     itself = stays refl;
   }
     where

@@ -1,5 +1,4 @@
 // What one station does in a step (document 01, "What a step does at station p"). Left and right are one function over a side.
-use bag::Bag;
 use line::Action;
 use line::Content;
 use line::Message;
@@ -9,10 +8,12 @@ use line::Side;
 use line::Station;
 ghost use mathlib.Core.Path.{_≡_};
 ghost use mathlib.Core.Bool.{Bool, false};
+ghost use mathlib.Core.List.{List};
+ghost use Rattle.line.specs.declared.Message.{Message};
 ghost use Rattle.line.specs.Message as message;
 ghost use Rattle.line.specs.Site as site;
 ghost use Rattle.line.specs.Act as act;
-ghost use Rattle.rules.specs.Decided.{sent, bothSent, reaction, Decides};
+ghost use Rattle.rules.specs.Decided.{sent, bothSent, reaction, isFound, Decides};
 
 // Nothing, or one message to one station.
 pub enum Sending {
@@ -38,12 +39,11 @@ pub enum Verdict {
     Refused(Refusal),
 }
 
-// A station's part in a step: refused, or its fields and bag afterwards, whether its block goes, and what it sends.
+// A station's part in a step: refused, or its fields afterwards, whether its block goes, and what it sends.
 pub struct Decision {
     pub verdict: Verdict,
     pub gone: bool,
     pub station: Station,
-    pub bag: Bag,
     pub sendings: Sendings,
 }
 
@@ -265,27 +265,25 @@ fn introduce_both(left: Neighbour, right: Neighbour) -> Sendings
     }
 }
 
-// A refused step: the station and the bag as they were, nothing sent.
-fn refuse(refusal: Refusal, s: Station, bag: Bag) -> Decision
-    ensures { λ r. ⌜ (r .verdict ≡ Verdict.Refused refusal) × (r .bag ≡ bag) × (r .gone ≡ false) ⌝ }
+// A refused step: the station as it was, nothing sent.
+fn refuse(refusal: Refusal, s: Station) -> Decision
+    ensures { λ r. ⌜ (r .verdict ≡ Verdict.Refused refusal) × (r .gone ≡ false) ⌝ }
 {
     Decision {
         verdict: Verdict::Refused(refusal),
         gone: false,
         station: s,
-        bag,
         sendings: nothing(),
     }
 }
 
-fn deliver(s: Station, bag: Bag, m: Message) -> Decision
-    ensures { λ r. ⌜ ((alone : Bool) → Decides alone s bag (Action.Deliver m) r) ⌝ }
+// A delivery, where found says whether the bag holds the message.
+fn deliver(found: bool, s: Station, m: Message) -> Decision
+    ensures { λ r. ⌜ ((alone : Bool) (b : List Message) → found ≡ message.holds m b → Decides alone s b (Action.Deliver m) r) ⌝ }
 {
-    let taken = bag.take(m);
-    if taken.found {
+    if found {
         let content = m.content;
         let after = received(s, content);
-        let rest = taken.bag;
         let station = after.station;
         let sending = after.sending;
         let sendings = Sendings {
@@ -296,21 +294,20 @@ fn deliver(s: Station, bag: Bag, m: Message) -> Decision
             verdict: Verdict::Done,
             gone: false,
             station,
-            bag: rest,
             sendings,
         };
     }
-    refuse(Refusal::NotInBag, s, bag)
+    refuse(Refusal::NotInBag, s)
 }
 
-fn exit(alone: bool, s: Station, bag: Bag) -> Decision
-    ensures { λ r. ⌜ Decides alone s bag Action.Exit r ⌝ }
+fn exit(alone: bool, s: Station) -> Decision
+    ensures { λ r. ⌜ ((b : List Message) → Decides alone s b Action.Exit r) ⌝ }
 {
     if !s.leaving {
-        return refuse(Refusal::Staying, s, bag);
+        return refuse(Refusal::Staying, s);
     }
     if !alone {
-        return refuse(Refusal::Held, s, bag);
+        return refuse(Refusal::Held, s);
     }
     let left = s.left;
     let right = s.right;
@@ -319,14 +316,14 @@ fn exit(alone: bool, s: Station, bag: Bag) -> Decision
         verdict: Verdict::Done,
         gone: true,
         station: s,
-        bag,
         sendings,
     }
 }
 
-// A station's part in a step; alone says whether NIDEC holds for it, and is looked at by an exit only.
-pub fn decide(alone: bool, s: Station, bag: Bag, action: Action) -> Decision
-    ensures { λ r. ⌜ Decides alone s bag action r ⌝ }
+// A station's part in a step. alone says whether NIDEC holds for it, and is looked at by an exit only; found says whether its bag
+// holds the message to deliver, and is looked at by a delivery only.
+pub fn decide(alone: bool, found: bool, s: Station, action: Action) -> Decision
+    ensures { λ r. ⌜ ((b : List Message) → found ≡ isFound action b → Decides alone s b action r) ⌝ }
 {
     match action {
         Action::Timeout => {
@@ -335,11 +332,10 @@ pub fn decide(alone: bool, s: Station, bag: Bag, action: Action) -> Decision
                 verdict: Verdict::Done,
                 gone: false,
                 station: s,
-                bag,
                 sendings,
             }
         }
-        Action::Deliver(m) => deliver(s, bag, m),
-        Action::Exit => exit(alone, s, bag),
+        Action::Deliver(m) => deliver(found, s, m),
+        Action::Exit => exit(alone, s),
     }
 }

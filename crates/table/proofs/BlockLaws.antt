@@ -12,12 +12,12 @@ use Rattle.block.specs.Layout.{siteOf}
 use Rattle.table.specs.Blocks.{range, blockAt, blocks, sites}
 use Rattle.table.proofs.NumberLaws.{member-at}
 
-range-length : (a n : ℕ) → length (range a n) ≡ n
+pub range-length : (a n : ℕ) → length (range a n) ≡ n
 unfolding range
 range-length a zero = refl
 range-length a (suc n) = ap suc (range-length (suc a) n)
 
-range-at : (a n k : ℕ) → k < n → getD (range a n) k 0 ≡ a + k
+pub range-at : (a n k : ℕ) → k < n → getD (range a n) k 0 ≡ a + k
 unfolding range
 range-at a zero k h = absurd (not-suc-le-zero h)
 range-at a (suc n) zero h = omega arith

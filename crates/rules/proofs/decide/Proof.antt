@@ -23,13 +23,13 @@ exit-requires : tie.Need-exit-requires
 exit-requires c κs = search needs
 
 returns : tie.Need-returns
-returns c = rw (c .before .enum-told .given .1) (times-out _ _ _ _ (c .timeout .ensures))
+returns c = rw (c .before .enum-told .given .1) (λ b h. times-out _ _ b _ (c .timeout .ensures))
 
 returns-2 : tie.Need-returns-2
 returns-2 c = rw (c .before .before .action .given .1) (c .deliver .ensures _)
 
 returns-3 : tie.Need-returns-3
-returns-3 c = rw (c .before .enum-told2 .given .1) (c .exit .ensures)
+returns-3 c = rw (c .before .enum-told2 .given .1) (λ b h. c .exit .ensures b)
 
 pub decide-spec : {M : Type 1} → statement M
 decide-spec =

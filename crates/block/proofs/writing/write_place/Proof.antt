@@ -10,8 +10,8 @@ use Rattle.block.proofs.WritingLaws.{place-written}
 use Rattle.block.proofs.writing.write_place.Statement.{statement}
 use Rattle.block.proofs.writing.write_place.Tie as tie
 
-kind-of-requires : tie.Need-kind-of-requires
-kind-of-requires c κs = search needs
+kind-requires : tie.Need-kind-requires
+kind-requires c κs = search needs
 
 write-word-requires : tie.Need-write-word-requires
 write-word-requires c κs = search needs
@@ -42,14 +42,14 @@ returns c =
     let t = a .m .content in
     rw (c .before .before .before .carried .ensures) at (c .before .before .write-quad .ensures)
     ∙ ap (overwrite (a .at + 4) (le32 (carried t)))
-    (second .write-word2 .ensures ∙ ap (overwrite (a .at + 2) (le16 0)) (rw (first .before .kind-of .ensures) at (first .write-word .ensures)))
+    (second .write-word2 .ensures ∙ ap (overwrite (a .at + 2) (le16 0)) (rw (first .before .kind .ensures) at (first .write-word .ensures)))
     ∙ place-written (now (a .room)) (a .at) (a .m) (omega arith)
 
 pub write-place-spec : {M : Type 1} → statement M
 write-place-spec =
     tie.close
     (tie.spec
-    kind-of-requires
+    kind-requires
     write-word-requires
     add-write-word
     write-word-requires-2

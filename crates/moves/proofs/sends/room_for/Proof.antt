@@ -14,7 +14,7 @@ returns : tie.Need-returns
 returns c = search needs
 
 returns-2 : tie.Need-returns-2
-returns-2 c = room-sent _ _ _ (c .before .before .sending .given .1) _
+returns-2 c = room-sent _ _ _ (c .before .sending .given .1) _
 
 pub room-for-spec : {M : Type 1} → statement M
 room-for-spec = tie.close (tie.spec enum-told enum-known-sending returns returns-2)

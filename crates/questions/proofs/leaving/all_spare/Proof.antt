@@ -4,12 +4,14 @@ use denote.Ref.{now}
 use Prim.Native.Nat.{_-_}
 use Rattle.arrays.proofs.Ordering.{order-within}
 use Rattle.arrays.proofs.Clean.{clean-count}
-use Rattle.questions.proofs.Sparing.{SparedTo, spared-none, spared-next, spared-not, spared-all}
+use Rattle.table.specs.Blocks.{lineOf}
+use Rattle.moves.proofs.NidecWays.{SparedTo, spared-none}
+use Rattle.questions.proofs.Sparing.{block-spares, block-names, blocks-spare}
 use Rattle.questions.proofs.leaving.all_spare.Statement.{statement}
 use Rattle.questions.proofs.leaving.all_spare.Tie as tie
 
 abbrev Inv-loop : tie.InvT-loop
-Inv-loop table p order n j₀ j = SparedTo table p j
+Inv-loop table p order n j₀ j = SparedTo p (lineOf table) j
 
 abbrev μ-loop : tie.MeasureT-loop
 μ-loop table p order n j₀ j = n - j
@@ -45,20 +47,20 @@ loop-again : tie.Need-loop-again Inv-loop μ-loop
 loop-again c =
     let at = c .before .before .before .before in
     let s = at .before .before in
-    spared-next (now (s .args .table)) (s .args .t2) (s .pre .1) (s .pre .0 .1) (at .loop .inv) (c .before .before .before .loop-test .taken)
+    block-spares (now (s .args .table)) (s .args .t2) (s .pre .0 .1) (at .loop .inv) (c .before .before .before .loop-test .taken)
     (rw (c .before .before .block-at .ensures .0) at (c .before .spares .ensures)) (c .if1 .taken)
 
 returns : tie.Need-returns Inv-loop μ-loop
 returns c =
     let at = c .before .before .before .before in
     let s = at .before .before in
-    spared-not (now (s .args .table)) (s .args .t2) (s .pre .1) (s .pre .0 .1) (at .loop .inv) (c .before .before .before .loop-test .taken)
+    block-names (now (s .args .table)) (s .args .t2) (s .pre .0 .1) (at .loop .inv) (c .before .before .before .loop-test .taken)
     (rw (c .before .before .block-at .ensures .0) at (c .before .spares .ensures)) (c .if1 .left)
 
 returns-2 : tie.Need-returns-2 Inv-loop μ-loop
 returns-2 c =
     let s = c .before .before .before in
-    spared-all (now (s .args .table)) (s .args .t2) (s .pre .1) (s .pre .0 .1) (c .before .loop .inv) (c .loop-test .left)
+    blocks-spare (now (s .args .table)) (s .args .t2) (s .pre .0 .1) (c .before .loop .inv) (c .loop-test .left)
 
 pub all-spare-spec : {M : Type 1} → statement M
 all-spare-spec =

@@ -13,10 +13,10 @@ use Rattle.questions.proofs.leaving.introduces.Statement.{statement}
 use Rattle.questions.proofs.leaving.introduces.Tie as tie
 
 abbrev Inv-loop : tie.InvT-loop
-Inv-loop b p sought n i₀ i = (n ≤ 32) × (i ≤ n) × (holds sought (messages b i) ≡ false)
+Inv-loop b p n i₀ i = (n ≤ 32) × (i ≤ n) × (holds (introduction p) (messages b i) ≡ false)
 
 abbrev μ-loop : tie.MeasureT-loop
-μ-loop b p sought n i₀ i = n - i
+μ-loop b p n i₀ i = n - i
 
 word-at-requires : tie.Need-word-at-requires Inv-loop μ-loop
 word-at-requires c κs = search needs
@@ -33,8 +33,8 @@ place-at-requires c κs = search needs
 message-of-requires : tie.Need-message-of-requires Inv-loop μ-loop
 message-of-requires c κs = search needs
 
-same-requires : tie.Need-same-requires Inv-loop μ-loop
-same-requires c κs = search needs
+is-introduction-requires : tie.Need-is-introduction-requires Inv-loop μ-loop
+is-introduction-requires c κs = search needs
 
 returns : tie.Need-returns Inv-loop μ-loop
 returns c =
@@ -43,7 +43,7 @@ returns c =
     let b = now (a .b) in
     let i = at .loop .i in
     let m : c .before .before .message-of .result ≡ messageOf (placeAt b i) = cc in
-    sym (any-found (same (introduction (a .p))) b i (word b 16) (omega arith) (rw (← m) (sym (c .before .same .ensures) ∙ c .if1 .taken)))
+    sym (any-found (same (introduction (a .p))) b i (word b 16) (omega arith) (rw (← m) (sym (c .before .is-introduction .ensures) ∙ c .if1 .taken)))
 
 add-i : tie.Need-add-i Inv-loop μ-loop
 add-i c = search needs
@@ -58,7 +58,7 @@ loop-again c =
     let b = now (a .b) in
     let i = at .loop .i in
     let m : c .before .before .message-of .result ≡ messageOf (placeAt b i) = cc in
-    (omega arith, omega arith, any-more (same (introduction (a .p))) b i (at .loop .inv .2) (rw (← m) (sym (c .before .same .ensures) ∙ c .if1 .left)))
+    (omega arith, omega arith, any-more (same (introduction (a .p))) b i (at .loop .inv .2) (rw (← m) (sym (c .before .is-introduction .ensures) ∙ c .if1 .left)))
 
 returns-2 : tie.Need-returns-2 Inv-loop μ-loop
 returns-2 c =
@@ -78,7 +78,7 @@ introduces-spec =
     loop-holds
     place-at-requires
     message-of-requires
-    same-requires
+    is-introduction-requires
     returns
     add-i
     loop-less

@@ -26,7 +26,7 @@ returns : tie.Need-returns
 returns c =
     let s = c .before .before .before .before in
     let read = c .before .word-at .ensures ∙ ap countOf (c .before .before .block-at .ensures .0) in
-    bag-holds (now (s .args .table)) (s .args .t2) (s .pre .1 .0) (s .pre .0 .1) (s .args .i) (s .pre .1 .1) (λ z. c .if1 .taken (read ∙ z))
+    bag-holds (now (s .args .table)) (s .args .t2) (s .pre .0 .1) (s .args .i) (s .pre .1 .1) (λ z. c .if1 .taken (read ∙ z))
 
 number-at-requires : tie.Need-number-at-requires
 number-at-requires c κs =
@@ -41,7 +41,7 @@ returns-2 c =
     let w = c .before .before .before in
     let s = w .before .before .before in
     let read = w .word-at .ensures ∙ ap countOf (w .before .block-at .ensures .0) in
-    bag-empty (now (s .args .table)) (s .args .t2) (s .pre .1 .0) (s .pre .0 .1) (s .args .i) (s .pre .1 .1) (sym read ∙ c .before .before .if1 .left)
+    bag-empty (now (s .args .table)) (s .args .t2) (s .pre .0 .1) (s .args .i) (s .pre .1 .1) (sym read ∙ c .before .before .if1 .left)
     (c .before .number-at .ensures) (c .all-spare .ensures)
 
 pub nidec-spec : {M : Type 1} → statement M
