@@ -5,14 +5,14 @@ use mathlib.Core.List.{List, [], _∷_, _++_, append-assoc, append-nil}
 use native.Mathlib.Numerals.{add-one}
 use native.Mathlib.Omega.{arith}
 use lib.ListN.{length, getD, set, replicate, length-set}
-use lib.Seq.{set-at, take-at, ext-getD}
+use lib.Seq.{set-at, ext-getD}
 use Rattle.line.specs.declared.Message.{Message}
 use Rattle.line.specs.Lists.{sort}
 use Rattle.line.specs.Message.{precedes}
 use Rattle.line.specs.Site.{withBagInOrder}
-use Rattle.block.specs.Layout.{messages, stationOf, siteOf, blank, rowOf}
+use Rattle.block.specs.Layout.{stationOf, siteOf, blank, rowOf}
 use Rattle.block.specs.Said.{nobody}
-use Rattle.block.proofs.PlaceLaws.{length-messages}
+use Rattle.block.proofs.PlaceLaws.{row-held}
 use Rattle.table.specs.Blocks.{range, blockAt, lineOf}
 use Rattle.table.proofs.BlockLaws.{range-length, range-at}
 use Rattle.arrays.specs.Arrays.{siteIn, lineIn}
@@ -57,10 +57,10 @@ module _ {i : ℕ} {slots : List ℕ} (so-far : SlotsTo i slots) where
 
 -- the counted messages of a row are those of the block
 pub row-site : (b : List ℕ) → siteIn (stationOf b) (rowOf b) (countOf b) ≡ withBagInOrder (siteOf b)
-unfolding withBagInOrder siteOf rowOf
+unfolding withBagInOrder siteOf
 row-site b =
     ap (λ (l : List Message). record { station = stationOf b; bag = sort precedes l })
-    (take-at (messages b (countOf b)) (replicate (32 - countOf b) blank) (countOf b) (length-messages b (countOf b)))
+    (row-held b)
 
 pub line-of-table : LineOfTable
 line-of-table t few =

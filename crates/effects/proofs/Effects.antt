@@ -8,7 +8,7 @@ use native.Mathlib.Omega.{arith}
 use lib.Dec.{eqb}
 use lib.ListN.{length, getD, take, set}
 use lib.Seq.{length-take-le}
-use borrow.Author.Tests.{ne-eqb, ltb-true}
+use borrow.Author.Tests.{ne-eqb}
 use Rattle.line.specs.declared.Message.{Message}
 use Rattle.line.specs.declared.Station as declared
 use Rattle.line.specs.declared.Step.{Step}
@@ -18,7 +18,6 @@ use Rattle.line.specs.Answer.{refused, done, refusalNumber}
 use Rattle.line.specs.Site.{Site, Line, numbers}
 use Rattle.line.specs.Nidec.{nidec}
 use Rattle.line.specs.Step.{step}
-use Rattle.line.proofs.Lists.{and-both}
 use Rattle.line.proofs.Whole.{step-result}
 use Rattle.bag.specs.declared.Taken.{Taken}
 use Rattle.bag.specs.Held.{ordered}
@@ -34,6 +33,7 @@ use Rattle.rules.specs.declared.Decision.{Decision}
 use Rattle.rules.specs.Decided.{rest}
 use Rattle.moves.specs.declared.Aimed.{Aimed}
 use Rattle.moves.specs.Sends.{verdictNumber, isExit, receiverOf, roomFor, answerOf, Aims, Draws}
+use Rattle.moves.proofs.SendWays.{sent-fits, both-fit}
 use Rattle.effects.proofs.Posting.{place, withBag, arrived, receiver-within}
 use Rattle.effects.proofs.Working.{Decided, step-refused, step-full, step-stays, step-leaves, named, first-unmoved, second-unmoved}
 use Rattle.effects.proofs.Stores.{Tidy, Kept, bagAt, Mailed, kept-length, kept-place, kept-number, kept-bag, kept-count, set-line, set-tidy, mail-line, mail-tidy, Dropped, dropped-line, dropped-numbered, dropped-tidy}
@@ -185,7 +185,7 @@ module _ {n : ℕ} {ns slots : List ℕ} {stations : List declared.Station} {bag
       first-room q m e =
           let same : place line₁ (aimed .first) ≡ place line (aimed .first) = rw first-place at (first-unmoved decided (goes .0) (record { to = q; message = m }) (rw e (here refl))) in
           let count-is = own-tidy .tallied (aimed .first) first-within ∙ ap (λ (l : Line). length ((place l (aimed .first)) .bag)) own-line ∙ ap (λ (t : Site). length (t .bag)) same ∙ sym (tidy .tallied (aimed .first) first-within) in
-          omega (arith, count-is, ltb-true a 32 (ap (λ (y : Sending). roomFor y a) (sym e) ∙ and-both (roomFor (d .sendings .first) a) (roomFor (d .sendings .second) b) (goes .1) .0))
+          omega (arith, count-is, sent-fits (d .sendings .first) q m e a (both-fit d a b (sym answer-is ∙ zero-is) .0))
 
       -- the first message is stored, where one is sent
       module _ (bags₂ : List (List Message)) (counts₂ : List ℕ) (first-mailed : Mailed (d .sendings .first) (getD slots (aimed .first) 0) bags₁ counts₁ bags₂ counts₂) where
@@ -203,7 +203,7 @@ module _ {n : ℕ} {ns slots : List ℕ} {stations : List declared.Station} {bag
         second-room q m e =
             let same : place line₂ (aimed .second) ≡ place line (aimed .second) = rw (first-place, second-place) at (second-unmoved decided (goes .0) (record { to = q; message = m }) (rw e (here refl))) in
             let count-is = first-tidy .tallied (aimed .second) second-within ∙ ap (λ (l : Line). length ((place l (aimed .second)) .bag)) first-line ∙ ap (λ (t : Site). length (t .bag)) same ∙ sym (tidy .tallied (aimed .second) second-within) in
-            omega (arith, count-is, ltb-true b 32 (ap (λ (y : Sending). roomFor y b) (sym e) ∙ and-both (roomFor (d .sendings .first) a) (roomFor (d .sendings .second) b) (goes .1) .1))
+            omega (arith, count-is, sent-fits (d .sendings .second) q m e b (both-fit d a b (sym answer-is ∙ zero-is) .1))
 
         -- the second message is stored, where one is sent
         module _ (bags₃ : List (List Message)) (counts₃ : List ℕ) (second-mailed : Mailed (d .sendings .second) (getD slots (aimed .second) 0) bags₂ counts₂ bags₃ counts₃) where
