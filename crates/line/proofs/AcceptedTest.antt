@@ -1,9 +1,9 @@
 -- The test `accepted` says what Accepted says.
 use mathlib.Core.Path.{_≡_, refl, sym, _∙_, ap}
 use mathlib.Core.Logic.{_↔_, _≢_}
-use mathlib.Core.Bool.{Bool, true, false, not, _&&_}
-use mathlib.Core.List.{List, [], _∷_, List·Memᴰ·not-nil, Memᴰ·cast}
-use mathlib.Core.List.{List·Memᴰ as Member, List·Memᴰ·head as here, List·Memᴰ·tail as there}
+use mathlib.Core.Bool.{Bool, true, not, _&&_}
+use mathlib.Core.List.{List, [], _∷_, Memᴰ·cast}
+use mathlib.Core.List.{List·Memᴰ as Member}
 use Prim.Native.Nat.{ℕ, _≤_}
 use native.Mathlib.Omega.{arith}
 use lib.Dec.{eqb, leb}
@@ -18,7 +18,7 @@ use Rattle.line.specs.declared.Side.{Side}
 use Rattle.line.specs.declared.Side.the-variants.{Left, Right}
 use Rattle.line.specs.Lists.{all}
 use Rattle.line.specs.Message.{introduction, capacity}
-use Rattle.line.specs.Site.{Site, Line, number, numbers, Present, Beyond, beyond, neighbour}
+use Rattle.line.specs.Site.{Site, Line, number, numbers, Present, Beyond, neighbour}
 use Rattle.line.specs.Links.{Linked, by-neighbour, by-introduction}
 use Rattle.line.specs.Accepted.{Distinct, Sided, Accepted, inRange, hasSmallBag, liesBeyond, hasSides, areDistinct, isPresent, knowsNeighbour, knowsContent, namesPresent, accepted}
 use Rattle.line.specs.Claims.{AcceptedTested}

@@ -1,23 +1,21 @@
 -- The test `inLine` of a line in written order says what In line says.
-use mathlib.Core.Path.{_≡_, refl, sym, _∙_, ap, subst}
-use mathlib.Core.Logic.{_↔_, _≢_, _⊎_, inl, inr, ⊎-elim}
-use mathlib.Core.Bool.{Bool, true, false, _&&_}
-use mathlib.Core.List.{List, [], _∷_, _++_, List·Memᴰ·not-nil, List·Memᴰ·cases-cons, Memᴰ·cast}
+use mathlib.Core.Path.{_≡_, refl, sym, ap}
+use mathlib.Core.Logic.{_↔_, _⊎_, inl, inr, ⊎-elim}
+use mathlib.Core.Bool.{true, _&&_}
+use mathlib.Core.List.{[], _∷_, List·Memᴰ·not-nil, List·Memᴰ·cases-cons}
 use mathlib.Core.List.{List·Memᴰ as Member, List·Memᴰ·head as here, List·Memᴰ·tail as there}
 use Prim.Native.Nat.{ℕ, _<_, _≤_}
 use native.Mathlib.Omega.{arith}
-use lib.Dec.{eqb}
 use borrow.Author.Tests.{eqb-true, eq-eqb}
 use Rattle.line.specs.declared.Neighbour.{Neighbour}
 use Rattle.line.specs.declared.Neighbour.the-variants.{None, Station}
 use Rattle.line.specs.declared.Side.{Side}
 use Rattle.line.specs.declared.Side.the-variants.{Left, Right}
-use Rattle.line.specs.Site.{Site, Line, number, numbers, Present, Beyond, neighbour, Rising, Written}
-use Rattle.line.specs.InLine.{Next, IsNext, InLine, isSame, first, inLineAfter, inLine}
+use Rattle.line.specs.Site.{Site, Line, number, numbers, Present, Beyond, neighbour, Rising}
+use Rattle.line.specs.InLine.{IsNext, isSame, first, inLineAfter, inLine}
 use Rattle.line.specs.Claims.{InLineTested}
-use Rattle.line.proofs.Lists.{clash, and-both, both-and, mem-map}
+use Rattle.line.proofs.Lists.{clash, and-both, both-and}
 use Rattle.line.proofs.Sides.{none-station, station-inj}
-use Rattle.line.proofs.Whole.{site-of}
 
 pub is-same : (a b : Neighbour) → (isSame a b ≡ true) ↔ (a ≡ b)
 unfolding isSame

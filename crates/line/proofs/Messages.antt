@@ -3,18 +3,18 @@ use mathlib.Core.Path.{_≡_, refl, sym, _∙_, ap}
 use mathlib.Core.Logic.{_⊎_, inl, inr, ⊎-elim}
 use mathlib.Core.Bool.{Bool, true, false, cond, _&&_, _||_}
 use mathlib.Core.List.{List, [], _∷_, List·Memᴰ·cases-cons}
-use mathlib.Core.List.{List·Memᴰ as Member, List·Memᴰ·head as here, List·Memᴰ·tail as there, Memᴰ·cast}
-use Prim.Native.Nat.{ℕ, suc, _+_, _≤_, _<_}
+use mathlib.Core.List.{List·Memᴰ as Member, List·Memᴰ·head as here, Memᴰ·cast}
+use Prim.Native.Nat.{ℕ, suc, _≤_, _<_}
 use native.Mathlib.Omega.{arith}
 use lib.Dec.{eqb, ltb}
-use borrow.Author.Tests.{eqb-true, ltb-true, ltb-false, eq-eqb, ne-eqb, le-ltb, lt-ltb}
+use borrow.Author.Tests.{eqb-true, ltb-true, ltb-false, eq-eqb}
 use lib.ListN.{length}
 use Rattle.line.specs.declared.Content.{Content}
 use Rattle.line.specs.declared.Content.the-variants.{Introduction, RemoveLeft, RemoveRight}
 use Rattle.line.specs.declared.Message.{Message}
 use Rattle.line.specs.Lists.{count, Ordered, sort}
-use Rattle.line.specs.Message.{kind, carried, introduction, same, precedes, copies, holds, remove, put, capacity}
-use Rattle.line.proofs.Lists.{clash, and-both, both-and, or-none, or-cases, fails, any-true, true-any, counted, counts-one, insert-self, insert-keeps, insert-mem, insert-length, Order, insert-ordered, sort-ordered, sort-count, removed-mem, mem-removed, removed-length, removed-ordered}
+use Rattle.line.specs.Message.{kind, carried, introduction, same, precedes, copies, holds, remove, put}
+use Rattle.line.proofs.Lists.{and-both, both-and, or-none, or-cases, fails, any-true, true-any, counted, counts-one, insert-self, insert-keeps, insert-mem, insert-length, Order, insert-ordered, sort-ordered, sort-count, removed-mem, mem-removed, removed-length, removed-ordered}
 
 -- a message is its kind and its number
 content-of : (c d : Content) → kind c ≡ kind d → carried c ≡ carried d → c ≡ d

@@ -1,15 +1,13 @@
 -- A whole run: what is kept by each step is kept by the list, also one that stops at a refusal.
-use mathlib.Core.Path.{_≡_, refl, sym, _∙_, ap}
+use mathlib.Core.Path.{_≡_, refl, _∙_, ap}
 use mathlib.Core.List.{List, [], _∷_}
-use Prim.Native.Nat.{ℕ, suc}
+use Prim.Native.Nat.{suc}
 use lib.ListN.{take}
-use Rattle.line.specs.declared.Refusal.{Refusal}
 use Rattle.line.specs.declared.Reading.{Reading}
 use Rattle.line.specs.declared.Reading.the-variants.{Step, Refused}
 use Rattle.line.specs.declared.Ending.the-variants.{Complete, Stopped}
 use Rattle.line.specs.Answer.{Answer, refused, done}
-use Rattle.line.specs.Site.{Line, Present}
-use Rattle.line.specs.Links.{Joined}
+use Rattle.line.specs.Site.{Line}
 use Rattle.line.specs.Run.{try, Run, run}
 use Rattle.line.specs.Claims.{RunKeepsAccepted, JoinedKept, RefusedChangesNothing, StepsDoneAlone}
 use Rattle.line.proofs.Answers.{refused-done}

@@ -2,8 +2,8 @@
 use mathlib.Core.Path.{_≡_, refl, sym, _∙_, ap, subst}
 use mathlib.Core.Logic.{_≢_, ⊎-elim}
 use mathlib.Core.Bool.{Bool, true, false, cond}
-use mathlib.Core.List.{List, [], _∷_, _++_, List·Memᴰ·not-nil, List·Memᴰ·eq-of-singleton, List·Memᴰ·append-cases}
-use mathlib.Core.List.{List·Memᴰ as Member, List·Memᴰ·head as here, List·Memᴰ·tail as there}
+use mathlib.Core.List.{List, [], _++_, List·Memᴰ·not-nil, List·Memᴰ·eq-of-singleton, List·Memᴰ·append-cases}
+use mathlib.Core.List.{List·Memᴰ as Member}
 use Prim.Native.Nat.{ℕ}
 use native.Mathlib.Omega.{arith}
 use lib.Dec.{eqb}
@@ -13,21 +13,20 @@ use Rattle.line.specs.declared.Neighbour.the-variants.{None, Station}
 use Rattle.line.specs.declared.Content.{Content}
 use Rattle.line.specs.declared.Content.the-variants.{Introduction, RemoveLeft, RemoveRight}
 use Rattle.line.specs.declared.Message.{Message}
-use Rattle.line.specs.declared.Refusal.{Refusal}
 use Rattle.line.specs.declared.Refusal.the-variants.{NotInBag, Staying, Held}
 use Rattle.line.specs.declared.Station as declared
 use Rattle.line.specs.declared.Side.{Side}
 use Rattle.line.specs.declared.Side.the-variants.{Left, Right}
 use Rattle.line.specs.declared.Action.{Action}
 use Rattle.line.specs.declared.Action.the-variants.{Timeout, Deliver, Exit}
-use Rattle.line.specs.Answer.{Answer, done, require}
-use Rattle.line.specs.Message.{introduction, holds, remove}
-use Rattle.line.specs.Site.{Site, number, leaving, Beyond, beyond, sideOf, neighbour, withNeighbour}
+use Rattle.line.specs.Answer.{done}
+use Rattle.line.specs.Message.{introduction, holds}
+use Rattle.line.specs.Site.{Site, number, leaving, beyond, sideOf, neighbour, withNeighbour}
 use Rattle.line.specs.Accepted.{Sided}
-use Rattle.line.specs.Act.{Send, send, sendTo, notice, timeout, Reaction, unchanged, meet, introduced, dropNeighbour, obeys, removed, received, introduceBoth, Effect, kept, act}
+use Rattle.line.specs.Act.{Send, send, sendTo, notice, timeout, unchanged, meet, introduced, dropNeighbour, obeys, removed, received, introduceBoth, Effect, act}
 use Rattle.line.specs.Claims.{Apart, SendsApart}
 use Rattle.line.proofs.Answers.{required, done-inj}
-use Rattle.line.proofs.Sides.{beyond-other, none-station, station-inj}
+use Rattle.line.proofs.Sides.{beyond-other}
 
 -- sends that go elsewhere than to station n, no two to one station
 pub record Clear (n : ℕ) (l : List Send) : Type 0 where

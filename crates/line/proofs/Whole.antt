@@ -15,10 +15,10 @@ use Rattle.line.specs.declared.Message.{Message}
 use Rattle.line.specs.declared.Refusal.the-variants.{Full}
 use Rattle.line.specs.declared.Step as declared
 use Rattle.line.specs.Lists.{all}
-use Rattle.line.specs.Answer.{Answer, done, _>>=_, require}
-use Rattle.line.specs.Message.{introduction, put, capacity}
+use Rattle.line.specs.Answer.{done, _>>=_}
+use Rattle.line.specs.Message.{introduction, capacity}
 use Rattle.line.specs.Site.{Site, Line, number, numbers, Present, Rising, Written}
-use Rattle.line.specs.Links.{Linked, by-neighbour, by-introduction, Link, link, Chain, same-station, along, against, Joined}
+use Rattle.line.specs.Links.{Linked, by-neighbour, by-introduction, Link, link, same-station, along, against, Joined}
 use Rattle.line.specs.Nidec.{nidec}
 use Rattle.line.specs.Accepted.{Distinct, Sided, Accepted}
 use Rattle.line.specs.Act.{Send, Effect, act}
@@ -26,7 +26,7 @@ use Rattle.line.specs.Step.{find, change, without, replace, receive, sen
 use Rattle.line.specs.Claims.{Apart, StepKeepsAccepted}
 use Rattle.line.proofs.Lists.{or-cases, clash, all-true, mem-map, map-mem, map-length}
 use Rattle.line.proofs.Answers.{bound, required, done-inj, refused-done}
-use Rattle.line.proofs.Messages.{Put, puts}
+use Rattle.line.proofs.Messages.{puts}
 use Rattle.line.proofs.Chains.{forward, equal, append, transport, carry}
 use Rattle.line.proofs.NidecTest.{nidec-tested}
 use Rattle.line.proofs.Sends.{Clear, clear-act}

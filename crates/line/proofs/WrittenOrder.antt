@@ -1,19 +1,18 @@
 -- The written order: accepted lines that are alike have one, it keeps what the line says, and a line in written order is left as it is.
 use mathlib.Core.Path.{_≡_, refl, sym, _∙_, ap, subst}
-use mathlib.Core.Logic.{_↔_, _≢_, _⊎_, inl, inr, ⊎-elim}
+use mathlib.Core.Logic.{_↔_, _≢_, ⊎-elim}
 use mathlib.Core.Bool.{Bool, true, false, cond}
 use mathlib.Core.List.{List, [], _∷_, map, List·Memᴰ·not-nil, List·Memᴰ·cases-cons, Memᴰ·cast}
 use mathlib.Core.List.{List·Memᴰ as Member, List·Memᴰ·head as here, List·Memᴰ·tail as there}
-use Prim.Native.Nat.{ℕ, _≤_, _<_}
+use Prim.Native.Nat.{ℕ, _<_}
 use native.Mathlib.Omega.{arith}
-use lib.Dec.{ltb}
 use borrow.Author.Tests.{ltb-true, ltb-false, le-ltb}
 use lib.ListN.{length}
 use Rattle.line.specs.declared.Message.{Message}
 use Rattle.line.specs.Lists.{Ordered, insert, sort}
-use Rattle.line.specs.Message.{introduction, precedes, same, copies}
+use Rattle.line.specs.Message.{precedes, same}
 use Rattle.line.specs.Site.{Site, Line, number, numbers, Present, lower, withBagInOrder, inWrittenOrder, Rising, Written}
-use Rattle.line.specs.Links.{Linked, by-neighbour, by-introduction, Link, link, Joined}
+use Rattle.line.specs.Links.{Linked, by-neighbour, by-introduction, Link, link}
 use Rattle.line.specs.Accepted.{Distinct, Sided, Accepted}
 use Rattle.line.specs.Alike.{AlikeSites, Alike}
 use Rattle.line.specs.Claims.{AlikeAgree, WrittenOrderKeeps, WrittenOrderStays}

@@ -3,7 +3,6 @@ use block::Place;
 use block::fields::in_range;
 use block::places::place_of;
 use line::Action;
-use line::Message;
 use line::Reading;
 use line::Refusal;
 use line::Step;
