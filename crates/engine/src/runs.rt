@@ -25,7 +25,8 @@ ghost use mathlib.Core.Bool.{true};
 ghost use Rattle.table.specs.Fault.{faultOf};
 ghost use Rattle.engine.specs.Ran.{listHolds, roomHolds, runOf, endedWith, outcome, said};
 
-// The run over an accepted table. A step is worked out whole before anything is stored; a refused one ends the run.
+// The run over an accepted table. The arrays stay where they were read; slots says where the station of each place stands in them. What
+// refuses a step is known before anything is stored, and a refused step ends the run.
 fn run_accepted(table: &[u8], steps: &[u8], room: &mut [u8]) -> Ran
     requires { ⌜ (faultOf (now table) ≡ 0) × (listHolds (now steps) ≡ true) × (roomHolds (now table) (now room) ≡ true) ⌝ }
     ensures { λ r. ⌜ said r (now (room .exit)) ≡ endedWith (runOf (now (table .entry)) (now (steps .entry))) (now (room .entry)) ⌝ }
@@ -56,6 +57,7 @@ fn run_accepted(table: &[u8], steps: &[u8], room: &mut [u8]) -> Ran
         let station = stations[own];
         let messages = bags[own];
         let count = counts[own];
+        // NIDEC: an exit asks the stations one after another, until one has this one as a neighbour or as an introduction.
         let asked = asked_of(action, n);
         let mut j: usize = 0;
         while j < asked {
@@ -74,6 +76,7 @@ fn run_accepted(table: &[u8], steps: &[u8], room: &mut [u8]) -> Ran
             }
         }
         let alone = (asked <= j) & (count == 0);
+        // What the station does, and who receives.
         let drawn = draw(action, Bag { messages, count });
         let aimed = aim(&numbers[..n], i, alone, drawn.found, station, action);
         let decision = aimed.decision;
@@ -86,6 +89,7 @@ fn run_accepted(table: &[u8], steps: &[u8], room: &mut [u8]) -> Ran
             answer = refused;
             break;
         }
+        // The station and its own bag are stored, then each message where one is sent.
         let after = decision.station;
         let rest = drawn.bag;
         let rest_row = rest.messages;
@@ -120,6 +124,7 @@ fn run_accepted(table: &[u8], steps: &[u8], room: &mut [u8]) -> Ran
             counts[b] = b_after.count;
         }
         k += 1;
+        // A station that goes leaves its place; no bag is moved.
         if decision.gone {
             numbers = drop_number(numbers, n, i);
             slots = drop_slot(slots, n, i);
