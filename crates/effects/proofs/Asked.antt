@@ -14,9 +14,11 @@ use Rattle.line.specs.declared.Station as declared
 use Rattle.line.specs.Lists.{all}
 use Rattle.line.specs.Site.{Site, Line, number}
 use Rattle.line.specs.Nidec.{isEmpty, nidec}
+use Rattle.block.specs.Said.{nobody}
 use Rattle.arrays.specs.Arrays.{siteAt, lineIn}
+use Rattle.moves.specs.Exits.{plainlySpares}
 use Rattle.moves.specs.Sends.{isExit}
-use Rattle.moves.proofs.NidecWays.{spared, SparedTo, spared-next, spared-not, spared-all, nidec-asked, empty-counted}
+use Rattle.moves.proofs.NidecWays.{spared, SparedTo, spared-next, spared-not, spared-all, nidec-asked, empty-counted, plainly-spared}
 use Rattle.effects.proofs.Stores.{Tidy, kept-length, kept-place}
 
 -- no more stations are asked than there are
@@ -34,6 +36,13 @@ module _ {n : ℕ} {ns slots : List ℕ} {stations : List declared.Station} {bag
   -- the station at place j spares p
   pub asked-next : {p j : ℕ} → SparedTo p line j → j < n → spared p (siteAt stations bags counts (getD slots j 0)) ≡ true → SparedTo p line (j + 1)
   asked-next {p} {j} so-far h e = spared-next so-far (omega (arith, kept-length t)) (ap (spared p) (kept-place t j h) ∙ e)
+
+  -- so does one that plainly does, whatever its row
+  pub asked-plainly : {p j : ℕ} → SparedTo p line j → j < n → plainlySpares p (getD stations (getD slots j 0) (nobody .station)) (getD counts (getD slots j 0) 0) ≡ true → SparedTo p line (j + 1)
+  asked-plainly {p} {j} so-far h e =
+      let site = siteAt stations bags counts (getD slots j 0) in
+      let size : getD counts (getD slots j 0) 0 ≡ length (site .bag) = t .tallied j h ∙ ap (λ (s : Site). length (s .bag)) (kept-place t j h) in
+      asked-next so-far h (plainly-spared p (site .station) (site .bag) (getD counts (getD slots j 0) 0) size e)
 
   -- the walk came to the end, or stopped at a station that names p
   asked-all : {p j : ℕ} → SparedTo p line j → (n ≤ j) ⊎ ((j < n) × (spared p (siteAt stations bags counts (getD slots j 0)) ≡ false)) → leb n j ≡ all (spared p) line

@@ -12,6 +12,7 @@ use line::Reading;
 use moves::exits::asked_of;
 use moves::exits::drop_number;
 use moves::exits::drop_slot;
+use moves::exits::plainly_spares;
 use moves::exits::spares;
 use moves::sends::aim;
 use moves::sends::draw;
@@ -57,22 +58,27 @@ fn run_accepted(table: &[u8], steps: &[u8], room: &mut [u8]) -> Ran
         let station = stations[own];
         let messages = bags[own];
         let count = counts[own];
-        // NIDEC: an exit asks the stations one after another, until one has this one as a neighbour or as an introduction.
+        // NIDEC: an exit asks the stations one after another, until one has this one as a neighbour or as an introduction. A bag is
+        // copied out only where it has to be looked at.
         let asked = asked_of(action, n);
         let mut j: usize = 0;
         while j < asked {
             let slot = slots[j];
             let other = stations[slot];
-            let other_messages = bags[slot];
             let other_count = counts[slot];
-            let other_bag = Bag {
-                messages: other_messages,
-                count: other_count,
-            };
-            if spares(station.number, other, other_bag) {
+            if plainly_spares(station.number, other, other_count) {
                 j += 1;
             } else {
-                break;
+                let other_messages = bags[slot];
+                let other_bag = Bag {
+                    messages: other_messages,
+                    count: other_count,
+                };
+                if spares(station.number, other, other_bag) {
+                    j += 1;
+                } else {
+                    break;
+                }
             }
         }
         let alone = (asked <= j) & (count == 0);

@@ -8,12 +8,16 @@ use native.Mathlib.Omega.{arith}
 use lib.Dec.{eqb}
 use lib.ListN.{length, getD, drop, drop-of-length-le}
 use lib.Seq.{drop-cons}
-use borrow.Author.Tests.{ne-eqb}
+use borrow.Author.Tests.{eq-eqb, ne-eqb}
 use Rattle.line.specs.declared.Message.{Message}
-use Rattle.line.specs.Lists.{all}
+use Rattle.line.specs.declared.Station as declared
+use Rattle.line.specs.Lists.{all, any}
+use Rattle.line.specs.Message.{introduction, same}
 use Rattle.line.specs.Site.{Site, Line, number}
-use Rattle.line.specs.Nidec.{names, isEmpty, nidec}
+use Rattle.line.specs.Nidec.{isNeighbour, names, isEmpty, nidec}
+use Rattle.line.proofs.Lists.{clash}
 use Rattle.block.specs.Said.{nobody}
+use Rattle.moves.specs.Exits.{plainlySpares}
 
 -- s is p itself, or does not name p
 abbrev pub spared : ℕ → Site → Bool
@@ -53,3 +57,15 @@ pub empty-counted : (b : List Message) (c : ℕ) → c ≡ length b → isEmpty 
 unfolding isEmpty
 empty-counted [] c e = rw e
 empty-counted (m ∷ b) c e = sym (ne-eqb c 0 (λ (z : c ≡ 0). omega arith))
+
+-- a station that is p itself, or has an empty bag and not p as a neighbour, spares p
+pub plainly-spared : (p : ℕ) (s : declared.Station) (b : List Message) (c : ℕ) → c ≡ length b → plainlySpares p s c ≡ true → spared p (record { station = s; bag = b }) ≡ true
+unfolding names any
+plainly-spared p s b c e h = go (eqb (s .number) p) (isNeighbour p (s .left)) (isNeighbour p (s .right)) b e h
+  where
+    go : (t l r : Bool) (b : List Message) → c ≡ length b → (t || (eqb c 0 && not (l || r))) ≡ true → (t || not (l || (r || any (same (introduction p)) b))) ≡ true
+    go true l r b e h = refl
+    go false l r (m ∷ b) e h = clash h (rw (ne-eqb c 0 (λ (z : c ≡ 0). omega arith)))
+    go false true r [] e h = clash h (rw (eq-eqb c 0 e))
+    go false false true [] e h = clash h (rw (eq-eqb c 0 e))
+    go false false false [] e h = refl

@@ -1,3 +1,4 @@
 -- What a reader must believe of the parts of a step, in reading order.
 pub mod Steps
 pub mod Sends
+pub mod Exits

@@ -14,6 +14,7 @@ ghost use lib.ListN.{take};
 ghost use Rattle.line.specs.Nidec as spec;
 ghost use Rattle.bag.specs.Held.{ordered};
 ghost use Rattle.bag.specs.Places.{removeAt};
+ghost use Rattle.moves.specs.Exits.{plainlySpares};
 ghost use Rattle.moves.specs.Sends.{isExit};
 
 pub fn is_neighbour(p: u32, n: Neighbour) -> bool
@@ -50,6 +51,16 @@ pub fn spares(p: u32, s: Station, bag: Bag) -> bool
         return true;
     }
     if names(p, s, bag) { false } else { true }
+}
+
+// The same where the number of messages alone tells it: a station that is p itself, or has an empty bag and not p as a neighbour.
+pub fn plainly_spares(p: u32, s: Station, count: usize) -> bool
+    ensures { λ r. ⌜ r ≡ plainlySpares p s count ⌝ }
+{
+    let left = s.left;
+    let right = s.right;
+    let beside = is_neighbour(p, left) | is_neighbour(p, right);
+    (s.number == p) | ((count == 0) & !beside)
 }
 
 // Whether NIDEC is to be asked, and of how many stations: an exit asks all n, any other step none.

@@ -22,7 +22,7 @@ use Rattle.rules.specs.declared.Sending.{Sending}
 use Rattle.moves.specs.Sends.{receiverOf}
 use Rattle.moves.proofs.NidecWays.{SparedTo, spared-none}
 use Rattle.effects.proofs.Stores.{Mailed, mailed-one, mailed-none, kept-length}
-use Rattle.effects.proofs.Asked.{asked-few, asked-next, asked-alone}
+use Rattle.effects.proofs.Asked.{asked-few, asked-next, asked-plainly, asked-alone}
 use Rattle.effects.proofs.Effects.{receiver-bound, Ready, refuses, first-room, second-room, stays-step, stays-kept, leaves-step, leaves-kept}
 use Rattle.effects.proofs.Starting.{few-blocks}
 use Rattle.effects.proofs.Going.{Going, Halted, starts-going, at-end, stops, goes, absent-step}
@@ -105,7 +105,7 @@ ready e = record {
   kept = turn (found e) .before .loop .inv .kept;
   within = found e .if1 .left;
   found = found e .before .lookup .ensures;
-  asked = λ x. asked-alone (turn (found e) .before .loop .inv .kept .tidy) (found e .before .lookup .result) (found e .if1 .left) (found e .before .before .before .before .reading .given .0 .0 .action) x (e .before .before .before .before .before .asked-of .ensures) (e .before .before .before .before .loop2 .inv) (⊎-elim (λ w. inl (w .left)) (λ w. inr (w .0 .taken, sym (w .3 .ensures) ∙ w .4 .left)) (e .before .before .before .loop2-test .came));
+  asked = λ x. asked-alone (turn (found e) .before .loop .inv .kept .tidy) (found e .before .lookup .result) (found e .if1 .left) (found e .before .before .before .before .reading .given .0 .0 .action) x (e .before .before .before .before .before .asked-of .ensures) (e .before .before .before .before .loop2 .inv) (⊎-elim (λ w. inl (w .left)) (λ w. inr (w .0 .taken, sym (w .5 .ensures) ∙ w .6 .left)) (e .before .before .before .loop2-test .came));
   draws = e .before .before .draw .ensures;
   aims = e .aim .ensures;
 }
@@ -246,29 +246,41 @@ mul-other c = omega (arith, slot-few c)
 array-copy-out-other : tie.Need-array-copy-out-other Inv-loop2 μ-loop2 Inv-loop μ-loop
 array-copy-out-other c = slot-few c
 
-mul-other-messages : tie.Need-mul-other-messages Inv-loop2 μ-loop2 Inv-loop μ-loop
-mul-other-messages c = omega (arith, slot-few (c .before))
-
-array-copy-out-other-messages : tie.Need-array-copy-out-other-messages Inv-loop2 μ-loop2 Inv-loop μ-loop
-array-copy-out-other-messages c = slot-few (c .before)
-
 mul-other-count : tie.Need-mul-other-count Inv-loop2 μ-loop2 Inv-loop μ-loop
-mul-other-count c = omega (arith, slot-few (c .before .before))
+mul-other-count c = omega (arith, slot-few (c .before))
 
 array-read-other-count : tie.Need-array-read-other-count Inv-loop2 μ-loop2 Inv-loop μ-loop
-array-read-other-count c = slot-few (c .before .before)
+array-read-other-count c = slot-few (c .before)
+
+plainly-spares-requires : tie.Need-plainly-spares-requires Inv-loop2 μ-loop2 Inv-loop μ-loop
+plainly-spares-requires c κs = search needs
+
+add-j : tie.Need-add-j Inv-loop2 μ-loop2 Inv-loop μ-loop
+add-j c = omega (arith, asked-small (c .before .before .before), few (turn (asking (c .before .before .before))))
+
+loop2-less : tie.Need-loop2-less Inv-loop2 μ-loop2 Inv-loop μ-loop
+loop2-less c = omega (arith, c .before .before .before .loop2-test .taken)
+
+loop2-again : tie.Need-loop2-again Inv-loop2 μ-loop2 Inv-loop μ-loop
+loop2-again c = asked-plainly (turn (asking (c .before .before .before)) .before .loop .inv .kept .tidy) (c .before .before .before .before .loop2 .inv) (asked-small (c .before .before .before)) (sym (c .before .plainly-spares .ensures) ∙ c .if2 .taken)
+
+mul-other-messages : tie.Need-mul-other-messages Inv-loop2 μ-loop2 Inv-loop μ-loop
+mul-other-messages c = omega (arith, slot-few (c .before .before .before))
+
+array-copy-out-other-messages : tie.Need-array-copy-out-other-messages Inv-loop2 μ-loop2 Inv-loop μ-loop
+array-copy-out-other-messages c = slot-few (c .before .before .before)
 
 spares-requires : tie.Need-spares-requires Inv-loop2 μ-loop2 Inv-loop μ-loop
 spares-requires c κs = search needs
 
-add-j : tie.Need-add-j Inv-loop2 μ-loop2 Inv-loop μ-loop
-add-j c = omega (arith, asked-small (c .before .before .before .before), few (turn (asking (c .before .before .before .before))))
+add-j-2 : tie.Need-add-j-2 Inv-loop2 μ-loop2 Inv-loop μ-loop
+add-j-2 c = omega (arith, asked-small (c .before .before .before .before .before .before), few (turn (asking (c .before .before .before .before .before .before))))
 
-loop2-less : tie.Need-loop2-less Inv-loop2 μ-loop2 Inv-loop μ-loop
-loop2-less c = omega (arith, c .before .before .before .before .loop2-test .taken)
+loop2-less-2 : tie.Need-loop2-less-2 Inv-loop2 μ-loop2 Inv-loop μ-loop
+loop2-less-2 c = omega (arith, c .before .before .before .before .before .before .loop2-test .taken)
 
-loop2-again : tie.Need-loop2-again Inv-loop2 μ-loop2 Inv-loop μ-loop
-loop2-again c = asked-next (turn (asking (c .before .before .before .before)) .before .loop .inv .kept .tidy) (c .before .before .before .before .before .loop2 .inv) (asked-small (c .before .before .before .before)) (sym (c .before .spares .ensures) ∙ c .if2 .taken)
+loop2-again-2 : tie.Need-loop2-again-2 Inv-loop2 μ-loop2 Inv-loop μ-loop
+loop2-again-2 c = asked-next (turn (asking (c .before .before .before .before .before .before)) .before .loop .inv .kept .tidy) (c .before .before .before .before .before .before .before .loop2 .inv) (asked-small (c .before .before .before .before .before .before)) (sym (c .before .spares .ensures) ∙ c .if3 .taken)
 
 draw-requires : tie.Need-draw-requires Inv-loop2 μ-loop2 Inv-loop μ-loop
 draw-requires c κs = search needs
@@ -343,7 +355,7 @@ array-read-a-count : tie.Need-array-read-a-count Inv-loop2 μ-loop2 Inv-loop μ-
 array-read-a-count c = first-reached (aimed (c .before .before .before .before .before)) .1
 
 put-requires : tie.Need-put-requires Inv-loop2 μ-loop2 Inv-loop μ-loop
-put-requires c κs = first-room (ready (aimed (c .before .before .before .before .before))) (c .before .before .before .before .before .before .before .before .before .refusal .result) (c .before .before .before .before .before .before .before .before .before .refusal .ensures) (c .before .before .before .before .before .before .before .before .if3 .left) _ _ (c .before .before .one .given .1)
+put-requires c κs = first-room (ready (aimed (c .before .before .before .before .before))) (c .before .before .before .before .before .before .before .before .before .refusal .result) (c .before .before .before .before .before .before .before .before .before .refusal .ensures) (c .before .before .before .before .before .before .before .before .if4 .left) _ _ (c .before .before .one .given .1)
 
 mul-bags-2 : tie.Need-mul-bags-2 Inv-loop2 μ-loop2 Inv-loop μ-loop
 mul-bags-2 c = omega (arith, first-reached (aimed (c .before .before .before .before .before .before .before)) .1)
@@ -376,7 +388,7 @@ array-read-b-count : tie.Need-array-read-b-count Inv-loop2 μ-loop2 Inv-loop μ-
 array-read-b-count c = second-reached (aimed (stored (c .before .before .before .before))) .1
 
 put-requires-2 : tie.Need-put-requires-2 Inv-loop2 μ-loop2 Inv-loop μ-loop
-put-requires-2 c κs = second-room (ready (aimed (stored (c .before .before .before .before)))) (stored (c .before .before .before .before) .before .before .before .before .refusal .result) (stored (c .before .before .before .before) .before .before .before .before .refusal .ensures) (stored (c .before .before .before .before) .before .before .before .if3 .left) (c .before .before .before .before .match2 .bags) (c .before .before .before .before .match2 .counts) (first-mailed (c .before .before .before .before)) _ _ (c .before .before .two .given .1)
+put-requires-2 c κs = second-room (ready (aimed (stored (c .before .before .before .before)))) (stored (c .before .before .before .before) .before .before .before .before .refusal .result) (stored (c .before .before .before .before) .before .before .before .before .refusal .ensures) (stored (c .before .before .before .before) .before .before .before .if4 .left) (c .before .before .before .before .match2 .bags) (c .before .before .before .before .match2 .counts) (first-mailed (c .before .before .before .before)) _ _ (c .before .before .two .given .1)
 
 mul-bags-3 : tie.Need-mul-bags-3 Inv-loop2 μ-loop2 Inv-loop μ-loop
 mul-bags-3 c = omega (arith, second-reached (aimed (stored (c .before .before .before .before .before .before))) .1)
@@ -420,8 +432,8 @@ loop-again c =
       within = omega (arith, turn (found (aimed (stored (one-posted (c .before .before .before))))) .loop-test .taken);
       fewer = omega (arith, l .inv .fewer);
       fresh = l .inv .fresh;
-      kept = leaves-kept r (stored (one-posted (c .before .before .before)) .before .before .before .before .refusal .result) (stored (one-posted (c .before .before .before)) .before .before .before .before .refusal .ensures) (stored (one-posted (c .before .before .before)) .before .before .before .if3 .left) _ _ fm _ _ sm (c .before .before .if4 .taken) (record { size = search (needs, length-mapped); is = c .before .drop-number .ensures }) (record { size = search (needs, length-mapped); is = c .drop-slot .ensures });
-      same = goes line steps (l .k) (length steps / 12) _ (turn (found (aimed (stored (one-posted (c .before .before .before))))) .loop-test .taken) (tried line (found (aimed (stored (one-posted (c .before .before .before)))) .before .before .before .before .reading .given .0 .0) (is-read (found (aimed (stored (one-posted (c .before .before .before)))) .before .before .before .before)) (leaves-step r (stored (one-posted (c .before .before .before)) .before .before .before .before .refusal .result) (stored (one-posted (c .before .before .before)) .before .before .before .before .refusal .ensures) (stored (one-posted (c .before .before .before)) .before .before .before .if3 .left) _ _ fm _ _ sm (c .before .before .if4 .taken) (record { size = search (needs, length-mapped); is = c .before .drop-number .ensures }) (record { size = search (needs, length-mapped); is = c .drop-slot .ensures }))) (l .inv .same);
+      kept = leaves-kept r (stored (one-posted (c .before .before .before)) .before .before .before .before .refusal .result) (stored (one-posted (c .before .before .before)) .before .before .before .before .refusal .ensures) (stored (one-posted (c .before .before .before)) .before .before .before .if4 .left) _ _ fm _ _ sm (c .before .before .if5 .taken) (record { size = search (needs, length-mapped); is = c .before .drop-number .ensures }) (record { size = search (needs, length-mapped); is = c .drop-slot .ensures });
+      same = goes line steps (l .k) (length steps / 12) _ (turn (found (aimed (stored (one-posted (c .before .before .before))))) .loop-test .taken) (tried line (found (aimed (stored (one-posted (c .before .before .before)))) .before .before .before .before .reading .given .0 .0) (is-read (found (aimed (stored (one-posted (c .before .before .before)))) .before .before .before .before)) (leaves-step r (stored (one-posted (c .before .before .before)) .before .before .before .before .refusal .result) (stored (one-posted (c .before .before .before)) .before .before .before .before .refusal .ensures) (stored (one-posted (c .before .before .before)) .before .before .before .if4 .left) _ _ fm _ _ sm (c .before .before .if5 .taken) (record { size = search (needs, length-mapped); is = c .before .drop-number .ensures }) (record { size = search (needs, length-mapped); is = c .drop-slot .ensures }))) (l .inv .same);
     }
 
 loop-less-2 : tie.Need-loop-less-2 Inv-loop2 μ-loop2 Inv-loop μ-loop
@@ -439,8 +451,8 @@ loop-again-2 c =
       within = omega (arith, turn (found (aimed (stored (one-posted (c .before))))) .loop-test .taken);
       fewer = l .inv .fewer;
       fresh = l .inv .fresh;
-      kept = stays-kept r (stored (one-posted (c .before)) .before .before .before .before .refusal .result) (stored (one-posted (c .before)) .before .before .before .before .refusal .ensures) (stored (one-posted (c .before)) .before .before .before .if3 .left) _ _ fm _ _ sm (c .if4 .left);
-      same = goes line steps (l .k) (length steps / 12) _ (turn (found (aimed (stored (one-posted (c .before))))) .loop-test .taken) (tried line (found (aimed (stored (one-posted (c .before)))) .before .before .before .before .reading .given .0 .0) (is-read (found (aimed (stored (one-posted (c .before)))) .before .before .before .before)) (stays-step r (stored (one-posted (c .before)) .before .before .before .before .refusal .result) (stored (one-posted (c .before)) .before .before .before .before .refusal .ensures) (stored (one-posted (c .before)) .before .before .before .if3 .left) _ _ fm _ _ sm (c .if4 .left))) (l .inv .same);
+      kept = stays-kept r (stored (one-posted (c .before)) .before .before .before .before .refusal .result) (stored (one-posted (c .before)) .before .before .before .before .refusal .ensures) (stored (one-posted (c .before)) .before .before .before .if4 .left) _ _ fm _ _ sm (c .if5 .left);
+      same = goes line steps (l .k) (length steps / 12) _ (turn (found (aimed (stored (one-posted (c .before))))) .loop-test .taken) (tried line (found (aimed (stored (one-posted (c .before)))) .before .before .before .before .reading .given .0 .0) (is-read (found (aimed (stored (one-posted (c .before)))) .before .before .before .before)) (stays-step r (stored (one-posted (c .before)) .before .before .before .before .refusal .result) (stored (one-posted (c .before)) .before .before .before .before .refusal .ensures) (stored (one-posted (c .before)) .before .before .before .if4 .left) _ _ fm _ _ sm (c .if5 .left))) (l .inv .same);
     }
 
 write-line-requires : tie.Need-write-line-requires Inv-loop2 μ-loop2 Inv-loop μ-loop
@@ -448,11 +460,11 @@ write-line-requires c κs =
     let i = c .before .before .loop .inv in
     (i .kept .tidy .few, omega (arith, i .fewer, room-long (now (begun (c .before .before) .args .table)) (now (begun (c .before .before) .args .room)) (begun (c .before .before) .pre .2)), i .kept .tidy .inside)
 
-cast-t140 : tie.Need-cast-t140 Inv-loop2 μ-loop2 Inv-loop μ-loop
-cast-t140 c = omega (arith, c .before .before .before .before .before .loop .inv .within, list-few (now (begun (c .before .before .before .before .before) .args .steps)) (begun (c .before .before .before .before .before) .pre .1))
+cast-t142 : tie.Need-cast-t142 Inv-loop2 μ-loop2 Inv-loop μ-loop
+cast-t142 c = omega (arith, c .before .before .before .before .before .loop .inv .within, list-few (now (begun (c .before .before .before .before .before) .args .steps)) (begun (c .before .before .before .before .before) .pre .1))
 
-cast-t141 : tie.Need-cast-t141 Inv-loop2 μ-loop2 Inv-loop μ-loop
-cast-t141 c = omega (arith, c .before .before .before .before .before .loop .inv .kept .tidy .few)
+cast-t143 : tie.Need-cast-t143 Inv-loop2 μ-loop2 Inv-loop μ-loop
+cast-t143 c = omega (arith, c .before .before .before .before .before .loop .inv .kept .tidy .few)
 
 same-length : tie.Need-same-length Inv-loop2 μ-loop2 Inv-loop μ-loop
 same-length c = search needs
@@ -497,14 +509,18 @@ run-accepted-spec =
     array-read-slot
     mul-other
     array-copy-out-other
-    mul-other-messages
-    array-copy-out-other-messages
     mul-other-count
     array-read-other-count
-    spares-requires
+    plainly-spares-requires
     add-j
     loop2-less
     loop2-again
+    mul-other-messages
+    array-copy-out-other-messages
+    spares-requires
+    add-j-2
+    loop2-less-2
+    loop2-again-2
     draw-requires
     array-share-prefix-numbers-2
     slice-aggregate-aim
@@ -555,7 +571,7 @@ run-accepted-spec =
     loop-less-2
     loop-again-2
     write-line-requires
-    cast-t140
-    cast-t141
+    cast-t142
+    cast-t143
     same-length
     returns)
