@@ -35,8 +35,8 @@ map-remove f (y ∷ l) zero = refl
 map-remove {A} {B} f (y ∷ l) (suc i) = ap (λ (r : List B). f y ∷ r) (map-remove f l i)
 
 -- the slot of place i is that of no other place
-abbrev pub Alone : ℕ → List ℕ → ℕ → Type 0
-Alone n slots i = (j : ℕ) → j < n → j ≢ i → getD slots j 0 ≢ getD slots i 0
+abbrev pub Unshared : ℕ → List ℕ → ℕ → Type 0
+Unshared n slots i = (j : ℕ) → j < n → j ≢ i → getD slots j 0 ≢ getD slots i 0
 
 module _ (n : ℕ) (slots : List ℕ) (long : n ≤ length slots) (stations : List declared.Station) (bags : List (List Message)) (counts : List ℕ) where
   abbrev line : Line
@@ -71,13 +71,13 @@ module _ (n : ℕ) (slots : List ℕ) (long : n ≤ length slots) (stations : Li
         (λ j p q. let r : j < n = omega (arith, size) in rw (getD-take n slots j 0 r) (k j r q))
 
     -- a store of a row and a count, and of a station too
-    module _ (alone : Alone n slots i) (b : slot < length bags) (c : slot < length counts) (row : List Message) (m : ℕ) where
+    module _ (unshared : Unshared n slots i) (b : slot < length bags) (c : slot < length counts) (row : List Message) (m : ℕ) where
       pub line-mail : lineIn n slots stations (set bags slot row) (set counts slot m) ≡ set line i (siteIn (getD stations slot (nobody .station)) row m)
       unfolding lineIn
       line-mail =
           stored (siteAt stations (set bags slot row) (set counts slot m)) (siteIn (getD stations slot (nobody .station)) row m)
           (rw (getD-set-same bags slot row [] b, getD-set-same counts slot m 0 c))
-          (λ j p q. rw (getD-set-other bags slot (getD slots j 0) row [] (alone j p q), getD-set-other counts slot (getD slots j 0) m 0 (alone j p q)))
+          (λ j p q. rw (getD-set-other bags slot (getD slots j 0) row [] (unshared j p q), getD-set-other counts slot (getD slots j 0) m 0 (unshared j p q)))
 
       pub line-set : slot < length stations → (s : declared.Station)
           → lineIn n slots (set stations slot s) (set bags slot row) (set counts slot m) ≡ set line i (siteIn s row m)
@@ -85,4 +85,4 @@ module _ (n : ℕ) (slots : List ℕ) (long : n ≤ length slots) (stations : Li
       line-set a s =
           stored (siteAt (set stations slot s) (set bags slot row) (set counts slot m)) (siteIn s row m)
           (rw (getD-set-same stations slot s (nobody .station) a, getD-set-same bags slot row [] b, getD-set-same counts slot m 0 c))
-          (λ j p q. rw (getD-set-other stations slot (getD slots j 0) s (nobody .station) (alone j p q), getD-set-other bags slot (getD slots j 0) row [] (alone j p q), getD-set-other counts slot (getD slots j 0) m 0 (alone j p q)))
+          (λ j p q. rw (getD-set-other stations slot (getD slots j 0) s (nobody .station) (unshared j p q), getD-set-other bags slot (getD slots j 0) row [] (unshared j p q), getD-set-other counts slot (getD slots j 0) m 0 (unshared j p q)))

@@ -87,7 +87,7 @@ module _ {n : ℕ} {ns slots : List ℕ} {stations : List declared.Station} {bag
   abbrev d : Decision
   d = aimed .decision
 
-  -- the station's own bag, afterwards too
+  -- the station's own slot, and its bag afterwards
   abbrev own : ℕ
   own = getD slots i 0
 

@@ -23,7 +23,7 @@ use Rattle.bag.specs.Places.{removeAt}
 use Rattle.block.specs.Said.{nobody}
 use Rattle.table.proofs.NumberLaws.{first-at}
 use Rattle.arrays.specs.Arrays.{siteIn, siteAt, lineIn, Within}
-use Rattle.arrays.proofs.Lines.{Alone, map-remove, line-length, line-get, line-mail, line-set, line-without}
+use Rattle.arrays.proofs.Lines.{Unshared, map-remove, line-length, line-get, line-mail, line-set, line-without}
 use Rattle.rules.specs.declared.Sending.{Sending}
 use Rattle.rules.specs.declared.Sending.the-variants.{Nothing, To}
 use Rattle.effects.proofs.Posting.{place, withBag, arrived}
@@ -73,8 +73,8 @@ module _ {n : ℕ} {ns slots : List ℕ} {stations : List declared.Station} {bag
   kept-length = line-length n slots long stations bags counts
 
   -- no other place has the slot of place i, since its station would have the same number
-  pub alone : (i : ℕ) → i < n → Alone n slots i
-  alone i h j g ne e = ne (sym (first-at (number (place line i)) (numbers line) j up (within g) (named j g ∙ ap number (same j g e))) ∙ first-at (number (place line i)) (numbers line) i up (within h) (named i h))
+  pub unshared : (i : ℕ) → i < n → Unshared n slots i
+  unshared i h j g ne e = ne (sym (first-at (number (place line i)) (numbers line) j up (within g) (named j g ∙ ap number (same j g e))) ∙ first-at (number (place line i)) (numbers line) i up (within h) (named i h))
     where
       up : Rising (numbers line)
       up = rw (← (t .numbered)) (t .rising)
@@ -109,7 +109,7 @@ module _ {n : ℕ} {ns slots : List ℕ} {stations : List declared.Station} {bag
       pub set-line : lineIn n slots (set stations slot s) (set bags slot row) (set counts slot m) ≡ set line i (siteIn s row m)
       set-line =
           let k = t .inside i h in
-          line-set n slots long stations bags counts i h (alone i h) (omega (arith, t .bags-size)) (omega (arith, t .counts-size)) row m (omega (arith, t .stations-size)) s
+          line-set n slots long stations bags counts i h (unshared i h) (omega (arith, t .bags-size)) (omega (arith, t .counts-size)) row m (omega (arith, t .stations-size)) s
 
       pub set-tidy : s .number ≡ number (place line i) → m ≡ length (take m row) → Tidy n ns slots (set stations slot s) (set bags slot row) (set counts slot m)
       set-tidy e f = record {
@@ -136,7 +136,7 @@ module _ {n : ℕ} {ns slots : List ℕ} {stations : List declared.Station} {bag
 
           elsewhere : (j : ℕ) → j < n → j ≢ i → Counted j
           elsewhere j g ne =
-              rw (set-line, getD-set-other line i j (siteIn s row m) nobody ne, getD-set-other counts slot (getD slots j 0) m 0 (alone i h j g ne)) (t .tallied j g)
+              rw (set-line, getD-set-other line i j (siteIn s row m) nobody ne, getD-set-other counts slot (getD slots j 0) m 0 (unshared i h j g ne)) (t .tallied j g)
 
           go : (j : ℕ) → j < n → (b : Bool) → eqb j i ≡ b → Counted j
           go j g true e = here j g (eqb-true j i e)
@@ -149,7 +149,7 @@ module _ {n : ℕ} {ns slots : List ℕ} {stations : List declared.Station} {bag
     mail-line (To q m) bags′ counts′ p =
         let k = t .inside i h in
         let r = p .0 in
-        rw (p .2, p .3) (line-mail n slots long stations bags counts i h (alone i h) (omega (arith, t .bags-size)) (omega (arith, t .counts-size)) (r .messages) (r .count)
+        rw (p .2, p .3) (line-mail n slots long stations bags counts i h (unshared i h) (omega (arith, t .bags-size)) (omega (arith, t .counts-size)) (r .messages) (r .count)
         ∙ ap (λ (b : List Message). set line i (record { station = getD stations slot (nobody .station); bag = b })) (p .1 .ordered-is ∙ rw kept-bag)
         ∙ ap (λ (s : declared.Station). set line i (record { station = s; bag = arrived (To q m) ((place line i) .bag) })) (sym (ap (λ (s : Site). s .station) kept-place)))
 

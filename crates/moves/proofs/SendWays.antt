@@ -1,6 +1,6 @@
 -- One law for each way through the code of what is sent.
 use Prim.Native.Nat.{ℕ, _≤_, _<_}
-use mathlib.Core.Path.{_≡_, refl, _∙_}
+use mathlib.Core.Path.{_≡_, refl, sym, _∙_}
 use mathlib.Core.Logic.{_≢_}
 use mathlib.Core.Bool.{Bool, true, false, cond, _&&_}
 use mathlib.Core.List.{List}
@@ -9,16 +9,18 @@ use lib.ListN.{length}
 use native.Mathlib.Omega.{arith}
 use borrow.Author.Tests.{eq-eqb, ne-eqb, eqb-false, lt-ltb, le-ltb, ltb-true}
 use Rattle.line.specs.declared.Action.{Action}
-use Rattle.line.specs.declared.Action.the-variants.{Timeout, Deliver, Exit}
+use Rattle.line.specs.declared.Action.the-variants.{Deliver}
 use Rattle.line.specs.declared.Message.{Message}
 use Rattle.line.proofs.Lists.{and-both}
 use Rattle.bag.specs.declared.Bag.{Bag}
 use Rattle.bag.specs.declared.Taken.{Taken}
+use Rattle.bag.specs.Held.{ordered}
 use Rattle.bag.specs.Places.{firstAt}
 use Rattle.bag.specs.Changes.{Took}
 use Rattle.rules.specs.declared.Sending.{Sending}
 use Rattle.rules.specs.declared.Sending.the-variants.{To}
 use Rattle.rules.specs.declared.Decision.{Decision}
+use Rattle.rules.specs.Decided.{isFound, rest}
 use Rattle.moves.specs.Sends.{verdictNumber, receiverOf, roomFor, answerOf, Draws}
 
 -- who receives
@@ -38,11 +40,8 @@ module _ (x : Sending) (q : ℕ) (m : Message) where
   sent-fits e c h = ltb-true c 32 (room-sent e c ∙ h)
 
 -- what a step leaves of the station's own bag
-pub draws-timeout : (a : Action) → a ≡ Timeout → (own : Bag) → Draws a own (record { bag = own; found = false })
-draws-timeout a e own = rw e (record { found-is = refl; ordered-is = refl; counted = λ h. h })
-
-pub draws-exit : (a : Action) → a ≡ Exit → (own : Bag) → Draws a own (record { bag = own; found = false })
-draws-exit a e own = rw e (record { found-is = refl; ordered-is = refl; counted = λ h. h })
+pub draws-nothing : (a : Action) (own : Bag) → isFound a (ordered own) ≡ false → rest a (ordered own) ≡ ordered own → Draws a own (record { bag = own; found = false })
+draws-nothing a own e f = record { found-is = sym e; ordered-is = sym f; counted = λ h. h }
 
 pub draws-taken : (a : Action) (m : Message) → a ≡ Deliver m → (own : Bag) (r : Taken) → Took own m r → Draws a own r
 draws-taken a m e own r t = rw e (record { found-is = t .found-is; ordered-is = t .ordered-is; counted = λ h. t .counted })

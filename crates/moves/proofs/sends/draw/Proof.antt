@@ -1,6 +1,6 @@
 -- Only a delivery takes a message.
 use borrow.Author.Needs.{needs}
-use Rattle.moves.proofs.SendWays.{draws-timeout, draws-exit, draws-taken}
+use Rattle.moves.proofs.SendWays.{draws-nothing, draws-taken}
 use Rattle.moves.proofs.sends.draw.Statement.{statement}
 use Rattle.moves.proofs.sends.draw.Tie as tie
 
@@ -17,13 +17,13 @@ enum-told-2 : tie.Need-enum-told-2
 enum-told-2 c = search needs
 
 returns : tie.Need-returns
-returns c = draws-timeout _ (c .enum-told .given .1) _
+returns c = draws-nothing _ _ (rw (c .enum-told .given .1)) (rw (c .enum-told .given .1))
 
 returns-2 : tie.Need-returns-2
 returns-2 c = draws-taken _ _ (c .before .before .action .given .1) _ _ (c .take .ensures)
 
 returns-3 : tie.Need-returns-3
-returns-3 c = draws-exit _ (c .enum-told2 .given .1) _
+returns-3 c = draws-nothing _ _ (rw (c .enum-told2 .given .1)) (rw (c .enum-told2 .given .1))
 
 pub draw-spec : {M : Type 1} → statement M
 draw-spec =
