@@ -1,4 +1,4 @@
 -- What a reader must believe of the arrays, in reading order.
 pub mod Arrays
-pub mod Order
+pub mod Reading
 pub mod Claims

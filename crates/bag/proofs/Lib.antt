@@ -1,7 +1,4 @@
 -- What the proofs of the bag share, and what callers may cite of it.
 pub mod Laws
-pub mod Firsts
 pub mod Keys
 pub mod Orders
-pub mod Placing
-pub mod Shifts

@@ -2,4 +2,3 @@
 pub mod Held
 pub mod Changes
 pub mod Order
-pub mod Places

@@ -1,25 +1,28 @@
 -- The message places, which the definitions count from the end and the loops meet one by one.
-use mathlib.Core.Path.{_≡_, refl, sym, _∙_}
-use mathlib.Core.Bool.{true, false, and-false}
+use mathlib.Core.Path.{_≡_, refl, sym, ap, _∙_}
+use mathlib.Core.Bool.{Bool, true, false, and-false}
 use mathlib.Core.List.{List, [], _∷_, _++_, append-assoc}
 use mathlib.Core.Logic.{⊎-elim}
-use Prim.Native.Nat.{ℕ, zero, suc, _+_, _-_, _≤_, _<_}
+use Prim.Native.Nat.{ℕ, zero, suc, _+_, _-_, _*_, _≤_, _<_}
 use native.Mathlib.Numerals.{add-one}
 use native.Mathlib.Nat.{le-of-suc-le-suc, not-suc-le-zero, eq-or-lt-of-le}
 use native.Mathlib.Omega.{arith}
 use lib.ListN.{length, take, set, replicate, length-append, length-set}
 use lib.Seq.{set-at, take-at}
 use Rattle.line.specs.declared.Message.{Message}
-use Rattle.octets.specs.Bytes.{word}
-use Rattle.block.specs.Layout.{placeAt, isGood, messageOf, placesHold, messages, blank, rowOf}
+use Rattle.octets.specs.Bytes.{word, quad}
+use Rattle.fields.specs.declared.Place.{Place}
+use Rattle.fields.specs.Fields.{placeOf, isGood, messageOf}
+use Rattle.block.specs.Layout.{placeAt, placesHold, messages, blank, rowOf}
 
--- one good place more
-pub good-more : (b : List ℕ) (i : ℕ) → placesHold b i ≡ true → isGood (placeAt b i) ≡ true → placesHold b (i + 1) ≡ true
-unfolding placesHold
-good-more b i h e = rw (add-one i, h, e)
+-- the three fields of a place
+pub place-read : (b : List ℕ) (i : ℕ) {x : Place} {kind gap number : ℕ} → x ≡ placeOf kind gap number → kind ≡ word b (20 + 8 * i) → gap ≡ word b (22 + 8 * i)
+    → number ≡ quad b (24 + 8 * i) → x ≡ placeAt b i
+unfolding placeAt
+place-read b i e k g n = e ∙ rw (k, g, n)
 
 -- a bad place among the first n
-pub bad-below : (b : List ℕ) (i n : ℕ) → i < n → isGood (placeAt b i) ≡ false → placesHold b n ≡ false
+bad-below : (b : List ℕ) (i n : ℕ) → i < n → isGood (placeAt b i) ≡ false → placesHold b n ≡ false
 unfolding placesHold
 bad-below b i zero h e = absurd (not-suc-le-zero h)
 bad-below b i (suc n) h e =
@@ -27,6 +30,37 @@ bad-below b i (suc n) h e =
     (λ (p : i ≡ n). rw (← p, e, and-false))
     (λ (p : i < n). rw (bad-below b i n p e))
     (eq-or-lt-of-le (le-of-suc-le-suc h))
+
+-- so every one of good places is good
+pub good-below : (b : List ℕ) (i n : ℕ) → placesHold b n ≡ true → i < n → isGood (placeAt b i) ≡ true
+good-below b i n h k = go (isGood (placeAt b i)) refl
+  where
+    go : (t : Bool) → isGood (placeAt b i) ≡ t → t ≡ true
+    go true e = refl
+    go false e = sym (bad-below b i n k e) ∙ h
+
+-- the first i of n places are good
+pub record GoodTo (b : List ℕ) (n i : ℕ) : Type 0 where
+  pub within : i ≤ n
+  pub are : placesHold b i ≡ true
+
+pub good-none : {b : List ℕ} {n : ℕ} → GoodTo b n 0
+unfolding placesHold
+good-none = record { within = omega arith; are = refl }
+
+module _ {b : List ℕ} {n i : ℕ} (so-far : GoodTo b n i) where
+  -- one more, x
+  pub good-next : i < n → {x : Place} → x ≡ placeAt b i → {r : Bool} → r ≡ isGood x → r ≡ true → GoodTo b n (i + 1)
+  unfolding placesHold
+  good-next h e q t = record { within = omega arith; are = rw (add-one i, so-far .are, ← e, ← q) t }
+
+  -- a bad one decides
+  pub good-not : i < n → {x : Place} → x ≡ placeAt b i → {r : Bool} → r ≡ isGood x → r ≡ false → false ≡ placesHold b n
+  good-not h e q t = sym (bad-below b i n h (ap isGood (sym e) ∙ sym q ∙ t))
+
+  -- all of them
+  pub good-all : n ≤ i → true ≡ placesHold b n
+  good-all h = let w = so-far .within in let e : n ≡ i = omega arith in rw e (sym (so-far .are))
 
 pub length-messages : (b : List ℕ) (n : ℕ) → length (messages b n) ≡ n
 unfolding messages
@@ -46,9 +80,10 @@ row-none h = record { within = omega arith; room = h; size = refl; is = refl }
 
 module _ {b : List ℕ} {n i : ℕ} {a : List Message} (so-far : RowTo b n i a) where
   -- one more
-  pub row-next : i < n → {x : Message} → x ≡ messageOf (placeAt b i) → RowTo b n (i + 1) (set a i x)
+  pub row-next : i < n → {p : Place} → p ≡ placeAt b i → {x : Message} → x ≡ messageOf p → RowTo b n (i + 1) (set a i x)
   unfolding messages
-  row-next h {x} q =
+  row-next h {p} e {x} m =
+      let q : x ≡ messageOf (placeAt b i) = m ∙ ap messageOf e in
       let r = so-far .room in
       let z : 32 - i ≡ suc (32 - (i + 1)) = omega arith in
       let rest = replicate (32 - (i + 1)) blank in

@@ -1,5 +1,2 @@
--- What a reader must believe of a block, in reading order.
+-- What a reader must believe of a block.
 pub mod Layout
-pub mod Parts
-pub mod Said
-pub mod Claims

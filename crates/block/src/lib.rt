@@ -1,42 +1,23 @@
-// One block of 512 bytes (document 01, "The block").
-pub mod fields;
+// One block of 512 bytes, read and checked (document 01, "The block").
+pub mod layout;
 pub mod places;
 pub mod stations;
-pub mod writing;
 
 use bag::Bag;
-use fields::fields_hold;
+use fields::message_of;
+use layout::fields_hold;
 use line::Content;
 use line::Message;
-use line::Neighbour;
-use line::Station;
 use octets::check_sum;
 use octets::word_at;
-use places::message_of;
 use places::place_at;
 use stations::has_sides;
 pub use stations::station_of;
-pub use writing::write_block;
 ghost use mathlib.Core.Path.{_≡_};
-ghost use mathlib.Core.Bool.{cond};
 ghost use Prim.Native.Nat.{_≤_};
 ghost use lib.ListN.{length};
 ghost use Rattle.octets.specs.Bytes.{word};
-ghost use Rattle.block.specs.Layout.{checkHolds, rowOf, faultOf};
-ghost use Rattle.block.specs.Said.{ReadAs, nobody};
-
-// What a message place holds.
-pub enum Place {
-    Good(Message),
-    Bad,
-}
-
-// What reading a block gives: its smallest fault, or 0 with the station and its bag in written order.
-pub struct Read {
-    pub fault: u32,
-    pub station: Station,
-    pub bag: Bag,
-}
+ghost use Rattle.block.specs.Layout.{checkHolds, rowOf, firstFault, faultOf};
 
 // "The 256 words of 16 bits, added with wrap at 65,536, give 65,535."
 fn check_holds(b: &[u8]) -> bool
@@ -48,7 +29,7 @@ fn check_holds(b: &[u8]) -> bool
 
 // The smallest of 3, 4 and 5 whose rule does not hold, or 0.
 fn first_fault(check: bool, fields: bool, sides: bool) -> u32
-    ensures { λ r. ⌜ r ≡ cond check (cond fields (cond sides 0 5) 4) 3 ⌝ }
+    ensures { λ r. ⌜ r ≡ firstFault check fields sides ⌝ }
 {
     if !check {
         return 3;
@@ -89,39 +70,4 @@ pub fn bag_of(b: &[u8]) -> Bag
         i += 1;
     }
     Bag { messages, count: n }
-}
-
-// The station of a block that is not accepted.
-fn no_station() -> Station
-    ensures { λ r. ⌜ r ≡ nobody .station ⌝ }
-{
-    Station {
-        number: 0,
-        left: Neighbour::None,
-        right: Neighbour::None,
-        leaving: false,
-    }
-}
-
-pub fn read_block(b: &[u8]) -> Read
-    requires { ⌜ length (now b) ≡ 512 ⌝ }
-    ensures { λ r. ⌜ ReadAs (now (b .entry)) r ⌝ }
-{
-    let fault = fault_of(b);
-    if fault != 0 {
-        let station = no_station();
-        let bag = Bag::empty();
-        return Read {
-            fault,
-            station,
-            bag,
-        };
-    }
-    let station = station_of(b);
-    let bag = bag_of(b).in_order();
-    Read {
-        fault: 0,
-        station,
-        bag,
-    }
 }

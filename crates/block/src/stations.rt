@@ -1,5 +1,7 @@
 // The station that a block holds, and the rule that its neighbours lie on their own sides (document 01, "The block" and "The
 // numbers a crew may see", 5).
+use fields::neighbour_of;
+use line::Marks;
 use line::Neighbour;
 use line::Side;
 use line::Station;
@@ -8,20 +10,8 @@ use octets::word_at;
 ghost use mathlib.Core.Path.{_≡_};
 ghost use mathlib.Core.Bool.{_&&_};
 ghost use lib.ListN.{length};
-ghost use Rattle.line.specs.Site as site;
 ghost use Rattle.line.specs.Accepted.{liesBeyond};
-ghost use Rattle.block.specs.Layout.{neighbourOf, stationOf};
-
-// "0 for none"
-fn neighbour_of(n: u32) -> Neighbour
-    ensures { λ r. ⌜ r ≡ neighbourOf n ⌝ }
-{
-    if n == 0 {
-        Neighbour::None
-    } else {
-        Neighbour::Station(n)
-    }
-}
+ghost use Rattle.block.specs.Layout.{stationOf};
 
 // The station of any 512 bytes.
 pub fn station_of(b: &[u8]) -> Station
@@ -31,22 +21,12 @@ pub fn station_of(b: &[u8]) -> Station
     let number = quad_at(b, 4);
     let left = neighbour_of(quad_at(b, 8));
     let right = neighbour_of(quad_at(b, 12));
-    let leaving = word_at(b, 2) == 1;
+    let marks = Marks::from_words(word_at(b, 2), word_at(b, 18));
     Station {
         number,
         left,
         right,
-        leaving,
-    }
-}
-
-// The left of p is below it, the right above it.
-fn beyond(side: Side, p: u32, q: u32) -> bool
-    ensures { λ r. ⌜ r ≡ site.beyond side p q ⌝ }
-{
-    match side {
-        Side::Left => q < p,
-        Side::Right => p < q,
+        marks,
     }
 }
 
@@ -55,7 +35,7 @@ fn lies_beyond(side: Side, p: u32, neighbour: Neighbour) -> bool
 {
     match neighbour {
         Neighbour::None => true,
-        Neighbour::Station(q) => beyond(side, p, q),
+        Neighbour::Station(q) => side.beyond(p, q),
     }
 }
 

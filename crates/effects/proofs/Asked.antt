@@ -2,64 +2,76 @@
 use Prim.Native.Nat.{ℕ, _+_, _≤_, _<_}
 use mathlib.Core.Path.{_≡_, sym, ap, _∙_}
 use mathlib.Core.Logic.{_⊎_, ⊎-elim}
-use mathlib.Core.Bool.{Bool, true, false, cond, _&&_, and-comm}
-use mathlib.Core.List.{List}
+use mathlib.Core.Bool.{Bool, true, false, cond, not, _&&_, and-comm}
 use native.Mathlib.Omega.{arith}
 use lib.Dec.{eqb, leb}
 use lib.ListN.{length, getD}
 use borrow.Author.Tests.{le-leb, lt-leb}
+use Rattle.lists.specs.Lists.{any}
 use Rattle.line.specs.declared.Action.{Action}
-use Rattle.line.specs.declared.Message.{Message}
-use Rattle.line.specs.declared.Station as declared
-use Rattle.line.specs.Lists.{all}
-use Rattle.line.specs.Site.{Site, Line, number}
+use Rattle.line.specs.Node.{Node, number, nobody}
 use Rattle.line.specs.Nidec.{isEmpty, nidec}
-use Rattle.block.specs.Said.{nobody}
-use Rattle.arrays.specs.Arrays.{siteAt, lineIn}
-use Rattle.moves.specs.Exits.{plainlySpares}
-use Rattle.moves.specs.Sends.{isExit}
-use Rattle.moves.proofs.NidecWays.{spared, SparedTo, spared-next, spared-not, spared-all, nidec-asked, empty-counted, plainly-spared}
-use Rattle.effects.proofs.Stores.{Tidy, kept-length, kept-place}
+use Rattle.arrays.specs.Arrays.{Arrays, nodeAt, lineIn}
+use Rattle.arrays.proofs.Lines.{slotOf}
+use Rattle.moves.specs.Holders.{isExit, isHolder, mayHold}
+use Rattle.moves.proofs.Holding.{NoneTo, none-yet, none-next, holder-found, none-holds, nidec-holders, empty-counted, holds-not}
+use Rattle.effects.proofs.Stores.{Consistent, consistent-length, consistent-place}
 
--- no more stations are asked than there are
-pub asked-few : (a : Action) (n : ℕ) {r : ℕ} → r ≡ cond (isExit a) n 0 → r ≤ n
-asked-few a n e = go (isExit a) e
+-- j of the stations that are asked do not hold p; no more are asked than there are
+pub record Asking (a : Arrays) (p asked j : ℕ) : Type 0 where
+  pub consistent : Consistent a
+  pub few : asked ≤ a .n
+  pub none : NoneTo p (lineIn a) j
+
+pub asking-none : {a : Arrays} (p : ℕ) (x : Action) {asked : ℕ} → Consistent a → asked ≡ cond (isExit x) (a .n) 0 → Asking a p asked 0
+asking-none {a} p x t e = record { consistent = t; few = go (isExit x) e; none = none-yet }
   where
-    go : (b : Bool) {r : ℕ} → r ≡ cond b n 0 → r ≤ n
+    go : (b : Bool) {r : ℕ} → r ≡ cond b (a .n) 0 → r ≤ a .n
     go true e = omega arith
     go false e = omega arith
 
-module _ {n : ℕ} {ns slots : List ℕ} {stations : List declared.Station} {bags : List (List Message)} {counts : List ℕ} (t : Tidy n ns slots stations bags counts) where
-  abbrev line : Line
-  line = lineIn n slots stations bags counts
+module _ {a : Arrays} {p asked j : ℕ} (k : Asking a p asked j) where
+  abbrev node : Node
+  node = nodeAt a (slotOf a j)
 
-  -- the station at place j spares p
-  pub asked-next : {p j : ℕ} → SparedTo p line j → j < n → spared p (siteAt stations bags counts (getD slots j 0)) ≡ true → SparedTo p line (j + 1)
-  asked-next {p} {j} so-far h e = spared-next so-far (omega (arith, kept-length t)) (ap (spared p) (kept-place t j h) ∙ e)
+  -- the station at place j does not hold p
+  next : j < asked → isHolder p node ≡ false → Asking a p asked (j + 1)
+  next h e =
+      let t = k .consistent in
+      let f = k .few in
+      record { consistent = t; few = f; none = none-next (k .none) (omega (arith, consistent-length t)) (ap (isHolder p) (consistent-place t j (omega arith)) ∙ e) }
 
-  -- so does one that plainly does, whatever its row
-  pub asked-plainly : {p j : ℕ} → SparedTo p line j → j < n → plainlySpares p (getD stations (getD slots j 0) (nobody .station)) (getD counts (getD slots j 0) 0) ≡ true → SparedTo p line (j + 1)
-  asked-plainly {p} {j} so-far h e =
-      let site = siteAt stations bags counts (getD slots j 0) in
-      let size : getD counts (getD slots j 0) 0 ≡ length (site .bag) = t .tallied j h ∙ ap (λ (s : Site). length (s .bag)) (kept-place t j h) in
-      asked-next so-far h (plainly-spared p (site .station) (site .bag) (getD counts (getD slots j 0) 0) size e)
+  -- its bag tells
+  pub asking-next : {r : Bool} → j < asked → r ≡ isHolder p node → r ≡ false → Asking a p asked (j + 1)
+  asking-next h p q = next h (sym p ∙ q)
 
-  -- the walk came to the end, or stopped at a station that names p
-  asked-all : {p j : ℕ} → SparedTo p line j → (n ≤ j) ⊎ ((j < n) × (spared p (siteAt stations bags counts (getD slots j 0)) ≡ false)) → leb n j ≡ all (spared p) line
-  asked-all {p} {j} so-far =
-      ⊎-elim
-      (λ e. le-leb n j e ∙ sym (spared-all so-far (omega (arith, kept-length t))))
-      (λ e. lt-leb n j (e .0) ∙ sym (spared-not so-far (omega (arith, e .0, kept-length t)) (ap (spared p) (kept-place t j (e .0)) ∙ e .1)))
+  -- its fields and its count tell
+  pub asking-plainly : {r : Bool} → j < asked → r ≡ mayHold p (getD (a .stations) (slotOf a j) (nobody .station)) (getD (a .counts) (slotOf a j) 0) → r ≡ false → Asking a p asked (j + 1)
+  asking-plainly h e f =
+      let t = k .consistent in
+      let w = k .few in
+      let size : getD (a .counts) (slotOf a j) 0 ≡ length (node .bag) = t .tallied j (omega arith) ∙ ap (λ (s : Node). length (s .bag)) (consistent-place t j (omega arith)) in
+      next h (holds-not p (node .station) (node .bag) (getD (a .counts) (slotOf a j) 0) size (sym e ∙ f))
 
-  -- so an exit knows whether NIDEC holds for the station at place i
-  pub asked-alone : (i : ℕ) → i < n → (a : Action) → isExit a ≡ true → {asked j : ℕ} → asked ≡ cond (isExit a) n 0
-      → SparedTo (number (siteAt stations bags counts (getD slots i 0))) line j
-      → (asked ≤ j) ⊎ ((j < asked) × (spared (number (siteAt stations bags counts (getD slots i 0))) (siteAt stations bags counts (getD slots j 0)) ≡ false))
-      → (leb asked j && eqb (getD counts (getD slots i 0) 0) 0) ≡ nidec line (siteAt stations bags counts (getD slots i 0))
-  asked-alone i h a x {asked} {j} e so-far came =
-      let site = siteAt stations bags counts (getD slots i 0) in
-      let all-asked : asked ≡ n = e ∙ rw x in
-      let size : getD counts (getD slots i 0) 0 ≡ length (site .bag) = t .tallied i h ∙ ap (λ (s : Site). length (s .bag)) (kept-place t i h) in
-      rw all-asked
-      (ap (λ (c : Bool). leb n j && c) (sym (empty-counted (site .bag) (getD counts (getD slots i 0) 0) size)) ∙ and-comm (leb n j) (isEmpty (site .bag))
-      ∙ sym (nidec-asked line site (leb n j) (sym (asked-all so-far (rw all-asked at came)))))
+-- the walk came to the end, or stopped at a station that holds p
+abbrev pub WalkEnded : Arrays → ℕ → ℕ → ℕ → Type 0
+WalkEnded a p asked j = (asked ≤ j) ⊎ ((j < asked) × (isHolder p (nodeAt a (slotOf a j)) ≡ true))
+
+-- so an exit knows whether NIDEC holds for the station at place i
+pub asked-nidec : {a : Arrays} {asked j : ℕ} (i : ℕ) → i < a .n → (x : Action) → isExit x ≡ true → asked ≡ cond (isExit x) (a .n) 0
+    → Asking a (number (nodeAt a (slotOf a i))) asked j → WalkEnded a (number (nodeAt a (slotOf a i))) asked j
+    → (leb asked j && eqb (getD (a .counts) (slotOf a i) 0) 0) ≡ nidec (lineIn a) (nodeAt a (slotOf a i))
+asked-nidec {a} {asked} {j} i h x e all-asked k came =
+    let node = nodeAt a (slotOf a i) in
+    let t = k .consistent in
+    let all : asked ≡ a .n = all-asked ∙ rw e in
+    let size : getD (a .counts) (slotOf a i) 0 ≡ length (node .bag) = t .tallied i h ∙ ap (λ (s : Node). length (s .bag)) (consistent-place t i h) in
+    let held : leb asked j ≡ not (any (isHolder (number node)) (lineIn a)) = go all came in
+    ap (λ (c : Bool). leb asked j && c) (sym (empty-counted (node .bag) (getD (a .counts) (slotOf a i) 0) size)) ∙ and-comm (leb asked j) (isEmpty (node .bag))
+    ∙ ap (λ (c : Bool). isEmpty (node .bag) && c) held ∙ sym (nidec-holders (lineIn a) node)
+  where
+    go : asked ≡ a .n → (asked ≤ j) ⊎ ((j < asked) × (isHolder (number (nodeAt a (slotOf a i))) (nodeAt a (slotOf a j)) ≡ true)) → leb asked j ≡ not (any (isHolder (number (nodeAt a (slotOf a i)))) (lineIn a))
+    go all =
+        ⊎-elim
+        (λ e. le-leb asked j e ∙ sym (ap not (none-holds (k .none) (omega (arith, consistent-length (k .consistent))))))
+        (λ e. lt-leb asked j (e .0) ∙ sym (ap not (holder-found (k .none) (omega (arith, e .0, consistent-length (k .consistent))) (ap (isHolder (number (nodeAt a (slotOf a i)))) (consistent-place (k .consistent) j (omega (arith, e .0))) ∙ e .1))))

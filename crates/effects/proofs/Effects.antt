@@ -1,237 +1,244 @@
 -- One step over the arrays: what was read and worked out before the stores, and what the stores make of the line.
-use Prim.Native.Nat.{ℕ, _-_, _<_}
+use Prim.Native.Nat.{ℕ, _<_}
 use mathlib.Core.Path.{_≡_, refl, sym, ap, _∙_}
-use mathlib.Core.Logic.{_≢_, _⊎_, inl, inr, ⊎-elim}
-use mathlib.Core.Bool.{Bool, true, false, cond, _&&_}
+use mathlib.Core.Bool.{Bool, true, false, _&&_, cond}
 use mathlib.Core.List.{List, List·Memᴰ·head as here}
 use native.Mathlib.Omega.{arith}
-use lib.Dec.{eqb}
+use lib.Dec.{eqb, leb}
 use lib.ListN.{length, getD, take, set}
-use lib.Seq.{length-take-le}
-use borrow.Author.Tests.{ne-eqb}
+use lib.Seq.{getD-take}
+use Rattle.lists.specs.Places.{removeAt, firstAt}
+use Rattle.lists.specs.Numbers.{Rising}
+use Rattle.lists.proofs.Lists.{and-both}
+use Rattle.lists.proofs.Numbers.{found-there}
 use Rattle.line.specs.declared.Message.{Message}
-use Rattle.line.specs.declared.Station as declared
 use Rattle.line.specs.declared.Step.{Step}
 use Rattle.line.specs.declared.Refusal.{Refusal}
-use Rattle.line.specs.declared.Refusal.the-variants.{Malformed, Absent, NotInBag, Staying, Held, Full}
-use Rattle.line.specs.Answer.{refused, done, refusalNumber}
-use Rattle.line.specs.Site.{Site, Line, numbers}
+use Rattle.line.specs.declared.Refusal.the-variants.{Full}
+use Rattle.line.specs.Answer.{refused, done}
+use Rattle.line.specs.Node.{Node, Line, number, numbers, nobody}
 use Rattle.line.specs.Nidec.{nidec}
 use Rattle.line.specs.Step.{step}
 use Rattle.line.proofs.Whole.{step-result}
+use Rattle.line.proofs.Places.{place, withBag}
 use Rattle.bag.specs.declared.Taken.{Taken}
 use Rattle.bag.specs.Held.{ordered}
-use Rattle.bag.specs.Places.{removeAt, firstAt}
-use Rattle.block.specs.Said.{nobody}
-use Rattle.table.proofs.NumberLaws.{found-there}
-use Rattle.arrays.specs.Arrays.{siteAt, lineIn}
+use Rattle.index.specs.Index.{slotIn, numbersIn}
+use Rattle.index.proofs.Entries.{numbers-length}
+use Rattle.arrays.specs.Arrays.{Arrays, nodeAt, lineIn}
+use Rattle.arrays.proofs.Lines.{slotOf, shortened}
 use Rattle.rules.specs.declared.Sending.{Sending}
 use Rattle.rules.specs.declared.Sending.the-variants.{To}
 use Rattle.rules.specs.declared.Verdict.{Verdict}
 use Rattle.rules.specs.declared.Verdict.the-variants.{Done, Refused}
 use Rattle.rules.specs.declared.Decision.{Decision}
 use Rattle.rules.specs.Decided.{rest}
-use Rattle.moves.specs.declared.Aimed.{Aimed}
-use Rattle.moves.specs.Sends.{verdictNumber, isExit, receiverOf, roomFor, answerOf, Aims, Draws}
-use Rattle.moves.proofs.SendWays.{sent-fits, both-fit}
-use Rattle.effects.proofs.Posting.{place, withBag, arrived, receiver-within}
-use Rattle.effects.proofs.Working.{Decided, step-refused, step-full, step-stays, step-leaves, named, first-unmoved, second-unmoved}
-use Rattle.effects.proofs.Stores.{Tidy, Kept, bagAt, Mailed, kept-length, kept-place, kept-number, kept-bag, kept-count, set-line, set-tidy, mail-line, mail-tidy, Dropped, dropped-line, dropped-numbered, dropped-tidy}
-
--- a receiver has a place
-pub receiver-bound : {n : ℕ} {ns slots : List ℕ} {stations : List declared.Station} {bags : List (List Message)} {counts : List ℕ} (t : Tidy n ns slots stations bags counts)
-    (i : ℕ) → i < n → (x : Sending) {r : ℕ} → r ≡ receiverOf (take n ns) x i → r < n
-receiver-bound {n} {ns} {slots} {stations} {bags} {counts} t i h x e =
-    rw (e, t .numbered) (rw (kept-length t) at (receiver-within (lineIn n slots stations bags counts) x i (rw (kept-length t) h)))
+use Rattle.moves.specs.declared.Plan.{Plan}
+use Rattle.moves.specs.Holders.{isExit}
+use Rattle.moves.specs.Sends.{receiverOf, roomFor, verdictIn, Plans, BagAfter}
+use Rattle.moves.proofs.Sending.{sent-fits, done-means}
+use Rattle.effects.proofs.Posting.{arrived, receiver-within}
+use Rattle.effects.proofs.Working.{Decided, step-refused, step-full, step-stays, step-leaves, first-unmoved, second-unmoved, named, unfound}
+use Rattle.effects.proofs.Stores.{Consistent, BetweenSteps, bagAt, withBags, Arrived, consistent-length, consistent-taken, consistent-place, consistent-number, consistent-bag, consistent-count, stored-line, stored-consistent, arrived-line, arrived-consistent, Dropped, dropped-line, dropped-numbered, dropped-consistent, OwnStored, withStation, station-line, station-consistent}
+use Rattle.effects.proofs.Asked.{Asking, WalkEnded, asked-nidec}
 
 -- Everything that is read and worked out before the first store.
-pub record Ready (n : ℕ) (ns slots : List ℕ) (stations : List declared.Station) (bags : List (List Message)) (counts : List ℕ)
-    (x : Step) (i : ℕ) (alone : Bool) (drawn : Taken) (aimed : Aimed) : Type 0 where
-  pub kept : Kept n ns slots stations bags counts
-  pub within : i < n
-  pub found : i ≡ firstAt (eqb (x .station)) (take n ns)
-  pub asked : isExit (x .action) ≡ true → alone ≡ nidec (lineIn n slots stations bags counts) (siteAt stations bags counts (getD slots i 0))
-  pub draws : Draws (x .action) (bagAt bags counts (getD slots i 0)) drawn
-  pub aims : Aims (take n ns) i alone (drawn .found) (getD stations (getD slots i 0) (nobody .station)) (x .action) aimed
+pub record Planned (a : Arrays) (x : Step) (i : ℕ) (taken : Taken) (plan : Plan) : Type 0 where
+  pub nidecHolds : Bool
+  pub between : BetweenSteps a
+  pub within : i < a .n
+  pub found : i ≡ firstAt (eqb (x .station)) (numbersIn (take (a .n) (a .index)))
+  pub asked : isExit (x .action) ≡ true → nidecHolds ≡ nidec (lineIn a) (nodeAt a (slotOf a i))
+  pub bag : BagAfter (x .action) (bagAt a (slotOf a i)) taken
+  pub plans : Plans (take (a .n) (a .index)) (a .counts) i nidecHolds (taken .found) (getD (a .stations) (slotOf a i) (nobody .station)) (x .action) plan
 
--- no refusal has the number 0
-positive : (r : Refusal) → refusalNumber r ≢ 0
-positive Malformed e = omega arith
-positive Absent e = omega arith
-positive NotInBag e = omega arith
-positive Staying e = omega arith
-positive Held e = omega arith
-positive Full e = omega arith
+pub planned-by : {a : Arrays} {taken : Taken} {plan : Plan} {asked j : ℕ} (x : Step) (i : ℕ) → BetweenSteps a → i < a .n → i ≡ firstAt (eqb (x .station)) (numbersIn (take (a .n) (a .index)))
+    → asked ≡ cond (isExit (x .action)) (a .n) 0 → Asking a (number (nodeAt a (slotOf a i))) asked j → WalkEnded a (number (nodeAt a (slotOf a i))) asked j
+    → BagAfter (x .action) (bagAt a (slotOf a i)) taken
+    → Plans (take (a .n) (a .index)) (a .counts) i (leb asked j && eqb (getD (a .counts) (slotOf a i) 0) 0) (taken .found) (getD (a .stations) (slotOf a i) (nobody .station)) (x .action) plan
+    → Planned a x i taken plan
+planned-by x i b h f e k came t p = record { nidecHolds = _; between = b; within = h; found = f; asked = λ w. asked-nidec i h (x .action) w e k came; bag = t; plans = p }
 
--- an answer is that of the station itself, or 15
-answer-cases : (d : Decision) (a b n : ℕ) → n ≡ answerOf d a b
-    → ((r : Refusal) × (d .verdict ≡ Refused r) × (n ≡ refusalNumber r)) ⊎ ((d .verdict ≡ Done) × (n ≡ cond (roomFor (d .sendings .first) a && roomFor (d .sendings .second) b) 0 15))
-answer-cases d a b n e = go (d .verdict) refl e
-  where
-    go : (v : Verdict) → d .verdict ≡ v → n ≡ cond (eqb (verdictNumber v) 0) (cond (roomFor (d .sendings .first) a && roomFor (d .sendings .second) b) 0 15) (verdictNumber v)
-        → ((r : Refusal) × (d .verdict ≡ Refused r) × (n ≡ refusalNumber r)) ⊎ ((d .verdict ≡ Done) × (n ≡ cond (roomFor (d .sendings .first) a && roomFor (d .sendings .second) b) 0 15))
-    go Done f g = inr (f, g)
-    go (Refused r) f g = inl (r, f, g ∙ never r)
-      where
-        never : (r : Refusal) → cond (eqb (refusalNumber r) 0) (cond (roomFor (d .sendings .first) a && roomFor (d .sendings .second) b) 0 15) (refusalNumber r) ≡ refusalNumber r
-        never r = rw (ne-eqb (refusalNumber r) 0 (positive r))
+-- what a station asks of the index before it plans
+pub plan-asks : {a : Arrays} (t : Consistent a) {i : ℕ} → i < a .n → (i < length (take (a .n) (a .index))) × Rising (numbersIn (take (a .n) (a .index)))
+plan-asks t h = (omega (arith, consistent-taken t), t .rising)
 
-module _ {n : ℕ} {ns slots : List ℕ} {stations : List declared.Station} {bags : List (List Message)} {counts : List ℕ} {x : Step} {i : ℕ} {alone : Bool} {drawn : Taken} {aimed : Aimed}
-    (k : Ready n ns slots stations bags counts x i alone drawn aimed) where
+module _ {a : Arrays} {x : Step} {i : ℕ} {taken : Taken} {plan : Plan} (k : Planned a x i taken plan) where
   abbrev line : Line
-  line = lineIn n slots stations bags counts
+  line = lineIn a
 
-  abbrev tidy : Tidy n ns slots stations bags counts
-  tidy = k .kept .tidy
+  abbrev tidy : Consistent a
+  tidy = k .between .consistent
 
   abbrev d : Decision
-  d = aimed .decision
+  d = plan .decision
 
-  -- the station's own slot, and its bag afterwards
+  -- the entries that count
+  abbrev entries : List ℕ
+  entries = take (a .n) (a .index)
+
+  -- the station's own slot
   abbrev own : ℕ
-  own = getD slots i 0
-
-  abbrev left : List Message
-  left = rest (x .action) ((place line i) .bag)
+  own = slotOf a i
 
   -- the counts of the receivers' bags
-  abbrev a : ℕ
-  a = getD counts (getD slots (aimed .first) 0) 0
+  abbrev c₁ : ℕ
+  c₁ = getD (a .counts) (plan .first) 0
 
-  abbrev b : ℕ
-  b = getD counts (getD slots (aimed .second) 0) 0
+  abbrev c₂ : ℕ
+  c₂ = getD (a .counts) (plan .second) 0
 
   in-line : i < length line
-  in-line = rw (kept-length tidy) (k .within)
+  in-line = rw (consistent-length tidy) (k .within)
 
-  pub first-within : aimed .first < n
-  first-within = receiver-bound tidy i (k .within) (d .sendings .first) (k .aims .first)
+  -- where a receiver stands in the line, and its slot
+  abbrev receiver : Sending → ℕ
+  receiver y = receiverOf (numbers line) y i
 
-  pub second-within : aimed .second < n
-  second-within = receiver-bound tidy i (k .within) (d .sendings .second) (k .aims .second)
+  receiver-bound : (y : Sending) → receiver y < a .n
+  receiver-bound y = rw (consistent-length tidy) at (receiver-within line y i in-line)
 
-  -- where the receivers stand among the numbers of the line
-  first-place : receiverOf (numbers line) (d .sendings .first) i ≡ aimed .first
-  first-place = sym (k .aims .first ∙ ap (λ (l : List ℕ). receiverOf l (d .sendings .first) i) (tidy .numbered))
+  receiver-slot : (y : Sending) {r : ℕ} → r ≡ slotIn (getD entries (receiverOf (numbersIn entries) y i) 0) → r ≡ slotOf a (receiver y)
+  receiver-slot y e =
+      e ∙ ap (λ (l : List ℕ). slotIn (getD entries (receiverOf l y i) 0)) (tidy .numbered) ∙ ap slotIn (getD-take (a .n) (a .index) (receiver y) 0 (receiver-bound y))
 
-  second-place : receiverOf (numbers line) (d .sendings .second) i ≡ aimed .second
-  second-place = sym (k .aims .second ∙ ap (λ (l : List ℕ). receiverOf l (d .sendings .second) i) (tidy .numbered))
+  abbrev one : Sending
+  one = d .sendings .first
 
-  pub decided : Decided line x i alone d
+  abbrev two : Sending
+  two = d .sendings .second
+
+  first-slot : plan .first ≡ slotOf a (receiver one)
+  first-slot = receiver-slot one (k .plans .first)
+
+  second-slot : plan .second ≡ slotOf a (receiver two)
+  second-slot = receiver-slot two (k .plans .second)
+
+  first-count : c₁ ≡ length ((place line (receiver one)) .bag)
+  first-count = ap (λ (s : ℕ). getD (a .counts) s 0) first-slot ∙ tidy .tallied (receiver one) (receiver-bound one)
+
+  second-count : c₂ ≡ length ((place line (receiver two)) .bag)
+  second-count = ap (λ (s : ℕ). getD (a .counts) s 0) second-slot ∙ tidy .tallied (receiver two) (receiver-bound two)
+
+  pub decided : Decided line x i (k .nidecHolds) d
   decided = record {
-    sound = k .kept .sound;
+    sound = k .between .sound;
     within = in-line;
-    found = sym (kept-number tidy i (k .within)) ∙ ap (λ (j : ℕ). getD (take n ns) j 0) (k .found) ∙ found-there (take n ns) (x .station) (rw (← (k .found), length-take-le n ns (omega (arith, tidy .few, tidy .numbers-size))) (k .within));
-    asked = λ e. k .asked e ∙ ap (nidec line) (sym (kept-place tidy i (k .within)));
-    decides = rw (kept-place tidy i (k .within)) (k .aims .decides (ordered (bagAt bags counts own)) (k .draws .found-is));
+    found =
+        sym (consistent-number tidy i (k .within)) ∙ ap (λ (j : ℕ). getD (numbersIn entries) j 0) (k .found)
+        ∙ found-there (numbersIn entries) (x .station) (rw (← (k .found), numbers-length entries, ← consistent-taken tidy) (k .within));
+    asked = λ e. k .asked e ∙ ap (nidec line) (sym (consistent-place tidy i (k .within)));
+    decides = rw (consistent-place tidy i (k .within)) (k .plans .decides (ordered (bagAt a own)) (k .bag .found-is));
   }
 
-  first-count : a ≡ length ((place line (receiverOf (numbers line) (d .sendings .first) i)) .bag)
-  first-count = rw first-place (tidy .tallied (aimed .first) first-within)
+  -- the step is refused
+  pub refuses : {r : Refusal} → plan .verdict ≡ Refused r → step line x ≡ refused r
+  refuses {r} p = go (d .verdict) (roomFor one c₁ && roomFor two c₂) refl refl (sym (k .plans .verdict) ∙ p)
+    where
+      go : (v : Verdict) (t : Bool) → d .verdict ≡ v → (roomFor one c₁ && roomFor two c₂) ≡ t → verdictIn v t ≡ Refused r → step line x ≡ refused r
+      go Done true f g e = absurd (let z : _≡_ {A = ℕ} 0 1 = cc in omega arith)
+      go Done false f g e = step-full decided f c₁ c₂ first-count second-count g ∙ ap refused (let z : Full ≡ r = cc in z)
+      go (Refused q) t f g e = step-refused decided q f ∙ ap refused (let z : q ≡ r = cc in z)
 
-  second-count : b ≡ length ((place line (receiverOf (numbers line) (d .sendings .second) i)) .bag)
-  second-count = rw second-place (tidy .tallied (aimed .second) second-within)
+  -- it is done
+  module _ (goes : plan .verdict ≡ Done) where
+    verdicts : (d .verdict ≡ Done) × ((roomFor one c₁ && roomFor two c₂) ≡ true)
+    verdicts = done-means d c₁ c₂ (sym (k .plans .verdict) ∙ goes)
 
-  -- the answer of the step
-  module _ (answer : ℕ) (answer-is : answer ≡ answerOf d a b) where
-    -- a refused step: 12 to 15
-    pub refuses : answer ≢ 0 → (r : Refusal) × (step line x ≡ refused r) × (refusalNumber r ≡ answer)
-    refuses h =
-        ⊎-elim (λ e. (e .0, step-refused decided (e .0) (e .1), sym (e .2)))
-        (λ e. full (e .0) (roomFor (d .sendings .first) a && roomFor (d .sendings .second) b) refl (e .1))
-        (answer-cases d a b answer answer-is)
-      where
-        full : d .verdict ≡ Done → (t : Bool) → (roomFor (d .sendings .first) a && roomFor (d .sendings .second) b) ≡ t → answer ≡ cond t 0 15
-            → (r : Refusal) × (step line x ≡ refused r) × (refusalNumber r ≡ answer)
-        full go true e f = absurd (h f)
-        full go false e f = (Full, step-full decided go a b first-count second-count e, sym f)
+    fits : (roomFor one c₁ ≡ true) × (roomFor two c₂ ≡ true)
+    fits = and-both (roomFor one c₁) (roomFor two c₂) (verdicts .1)
 
-    -- a step that is done
-    module _ (zero-is : answer ≡ 0) where
-      goes : (d .verdict ≡ Done) × ((roomFor (d .sendings .first) a && roomFor (d .sendings .second) b) ≡ true)
-      goes =
-          ⊎-elim (λ e. absurd (positive (e .0) (sym (e .2) ∙ zero-is)))
-          (λ e. (e .0, fits (roomFor (d .sendings .first) a && roomFor (d .sendings .second) b) (sym (e .1) ∙ zero-is)))
-          (answer-cases d a b answer answer-is)
-        where
-          fits : (t : Bool) → _≡_ {A = ℕ} (cond t 0 15) 0 → t ≡ true
-          fits true e = refl
-          fits false e = absurd (omega arith)
+    -- the station is stored, and its own bag where a message was taken out of it
+    module _ (bags₁ : List (List Message)) (counts₁ : List ℕ) (own-stored : OwnStored (taken .found) own (taken .bag) a bags₁ counts₁) where
+      abbrev a₁ : Arrays
+      a₁ = withBags (withStation a own (d .station)) bags₁ counts₁
 
-      -- the station and its own bag are stored
-      abbrev stations₁ : List declared.Station
-      stations₁ = set stations own (d .station)
-
-      abbrev bags₁ : List (List Message)
-      bags₁ = set bags own (drawn .bag .messages)
-
-      abbrev counts₁ : List ℕ
-      counts₁ = set counts own (drawn .bag .count)
+      own-bag : ordered (taken .bag) ≡ rest (x .action) ((place line i) .bag)
+      own-bag = k .bag .ordered-is ∙ ap (rest (x .action)) (consistent-bag tidy i (k .within))
 
       abbrev line₁ : Line
-      line₁ = set line i (record { station = d .station; bag = left })
+      line₁ = set line i (record { station = d .station; bag = rest (x .action) ((place line i) .bag) })
 
-      pub own-line : lineIn n slots stations₁ bags₁ counts₁ ≡ line₁
-      own-line =
-          set-line tidy i (k .within) (d .station) (drawn .bag .messages) (drawn .bag .count)
-          ∙ ap (λ (l : List Message). set line i (record { station = d .station; bag = l })) (k .draws .ordered-is ∙ ap (rest (x .action)) (kept-bag tidy i (k .within)))
+      own-result : (lineIn a₁ ≡ line₁) × Consistent a₁
+      own-result = go (taken .found) refl own-stored
+        where
+          go : (t : Bool) → taken .found ≡ t → OwnStored t own (taken .bag) a bags₁ counts₁ → (lineIn a₁ ≡ line₁) × Consistent a₁
+          go true e p =
+              rw (p .0, p .1) (
+                stored-line tidy i (k .within) (d .station) (taken .bag .messages) (taken .bag .count) ∙ ap (λ (b : List Message). set line i (record { station = d .station; bag = b })) own-bag,
+                stored-consistent tidy i (k .within) (d .station) (taken .bag .messages) (taken .bag .count) (named decided (verdicts .0)) (k .bag .counted (consistent-count tidy i (k .within))),
+              )
+          go false e p =
+              let same : rest (x .action) ((place line i) .bag) ≡ (place line i) .bag =
+              unfound decided (verdicts .0) (rw (consistent-bag tidy i (k .within)) at (sym (k .bag .found-is) ∙ e)) in
+              rw (p .0, p .1, same) (station-line tidy i (k .within) (d .station), station-consistent tidy i (k .within) (d .station) (named decided (verdicts .0)))
 
-      pub own-tidy : Tidy n ns slots stations₁ bags₁ counts₁
-      own-tidy =
-          set-tidy tidy i (k .within) (d .station) (drawn .bag .messages) (drawn .bag .count) (named decided (goes .0)) (k .draws .counted (kept-count tidy i (k .within)))
+      own-line : lineIn a₁ ≡ line₁
+      own-line = own-result .0
+
+      own-consistent : Consistent a₁
+      own-consistent = own-result .1
 
       -- the first receiver's bag has room
-      pub first-room : (q : ℕ) (m : Message) → d .sendings .first ≡ To q m → getD counts₁ (getD slots (aimed .first) 0) 0 < 32
+      pub first-room : (q : ℕ) (m : Message) → one ≡ To q m → (plan .first < 64) × (getD (a₁ .counts) (plan .first) 0 < 32)
       first-room q m e =
-          let same : place line₁ (aimed .first) ≡ place line (aimed .first) = rw first-place at (first-unmoved decided (goes .0) (record { to = q; message = m }) (rw e (here refl))) in
-          let count-is = own-tidy .tallied (aimed .first) first-within ∙ ap (λ (l : Line). length ((place l (aimed .first)) .bag)) own-line ∙ ap (λ (t : Site). length (t .bag)) same ∙ sym (tidy .tallied (aimed .first) first-within) in
-          omega (arith, count-is, sent-fits (d .sendings .first) q m e a (both-fit d a b (sym answer-is ∙ zero-is) .0))
+          let same : place line₁ (receiver one) ≡ place line (receiver one) = first-unmoved decided (verdicts .0) (record { to = q; message = m }) (rw e (here refl)) in
+          let count-is =
+          ap (λ (s : ℕ). getD (a₁ .counts) s 0) first-slot ∙ own-consistent .tallied (receiver one) (receiver-bound one) ∙ ap (λ (l : Line). length ((place l (receiver one)) .bag)) own-line ∙ ap (λ (t : Node). length (t .bag)) same ∙ sym first-count in
+          (omega (arith, first-slot), omega (arith, count-is, sent-fits one c₁ q m e (fits .0)))
 
       -- the first message is stored, where one is sent
-      module _ (bags₂ : List (List Message)) (counts₂ : List ℕ) (first-mailed : Mailed (d .sendings .first) (getD slots (aimed .first) 0) bags₁ counts₁ bags₂ counts₂) where
+      module _ (bags₂ : List (List Message)) (counts₂ : List ℕ) (first-arrived : Arrived one (plan .first) a₁ bags₂ counts₂) where
+        abbrev a₂ : Arrays
+        a₂ = withBags a₁ bags₂ counts₂
+
         abbrev line₂ : Line
-        line₂ = withBag line₁ (aimed .first) (arrived (d .sendings .first) ((place line₁ (aimed .first)) .bag))
+        line₂ = withBag line₁ (receiver one) (arrived one ((place line₁ (receiver one)) .bag))
 
-        first-line : lineIn n slots stations₁ bags₂ counts₂ ≡ line₂
-        first-line = rw own-line at (mail-line own-tidy (aimed .first) first-within (d .sendings .first) bags₂ counts₂ first-mailed)
+        at-first : Arrived one (slotOf a₁ (receiver one)) a₁ bags₂ counts₂
+        at-first = rw first-slot at first-arrived
 
-        first-tidy : Tidy n ns slots stations₁ bags₂ counts₂
-        first-tidy = mail-tidy own-tidy (aimed .first) first-within (d .sendings .first) bags₂ counts₂ first-mailed
+        first-line : lineIn a₂ ≡ line₂
+        first-line = rw own-line at (arrived-line own-consistent (receiver one) (receiver-bound one) one bags₂ counts₂ at-first)
+
+        first-consistent : Consistent a₂
+        first-consistent = arrived-consistent own-consistent (receiver one) (receiver-bound one) one bags₂ counts₂ at-first
 
         -- the second receiver's bag has room
-        pub second-room : (q : ℕ) (m : Message) → d .sendings .second ≡ To q m → getD counts₂ (getD slots (aimed .second) 0) 0 < 32
+        pub second-room : (q : ℕ) (m : Message) → two ≡ To q m → (plan .second < 64) × (getD counts₂ (plan .second) 0 < 32)
         second-room q m e =
-            let same : place line₂ (aimed .second) ≡ place line (aimed .second) = rw (first-place, second-place) at (second-unmoved decided (goes .0) (record { to = q; message = m }) (rw e (here refl))) in
-            let count-is = first-tidy .tallied (aimed .second) second-within ∙ ap (λ (l : Line). length ((place l (aimed .second)) .bag)) first-line ∙ ap (λ (t : Site). length (t .bag)) same ∙ sym (tidy .tallied (aimed .second) second-within) in
-            omega (arith, count-is, sent-fits (d .sendings .second) q m e b (both-fit d a b (sym answer-is ∙ zero-is) .1))
+            let same : place line₂ (receiver two) ≡ place line (receiver two) = second-unmoved decided (verdicts .0) (record { to = q; message = m }) (rw e (here refl)) in
+            let count-is =
+            ap (λ (s : ℕ). getD counts₂ s 0) second-slot ∙ first-consistent .tallied (receiver two) (receiver-bound two) ∙ ap (λ (l : Line). length ((place l (receiver two)) .bag)) first-line ∙ ap (λ (t : Node). length (t .bag)) same ∙ sym second-count in
+            (omega (arith, second-slot), omega (arith, count-is, sent-fits two c₂ q m e (fits .1)))
 
         -- the second message is stored, where one is sent
-        module _ (bags₃ : List (List Message)) (counts₃ : List ℕ) (second-mailed : Mailed (d .sendings .second) (getD slots (aimed .second) 0) bags₂ counts₂ bags₃ counts₃) where
+        module _ (bags₃ : List (List Message)) (counts₃ : List ℕ) (second-arrived : Arrived two (plan .second) a₂ bags₃ counts₃) where
+          abbrev a₃ : Arrays
+          a₃ = withBags a₁ bags₃ counts₃
+
           abbrev line₃ : Line
-          line₃ = withBag line₂ (aimed .second) (arrived (d .sendings .second) ((place line₂ (aimed .second)) .bag))
+          line₃ = withBag line₂ (receiver two) (arrived two ((place line₂ (receiver two)) .bag))
 
-          second-line : lineIn n slots stations₁ bags₃ counts₃ ≡ line₃
-          second-line = rw first-line at (mail-line first-tidy (aimed .second) second-within (d .sendings .second) bags₃ counts₃ second-mailed)
+          at-second : Arrived two (slotOf a₂ (receiver two)) a₂ bags₃ counts₃
+          at-second = rw second-slot at second-arrived
 
-          second-tidy : Tidy n ns slots stations₁ bags₃ counts₃
-          second-tidy = mail-tidy first-tidy (aimed .second) second-within (d .sendings .second) bags₃ counts₃ second-mailed
+          second-line : lineIn a₃ ≡ line₃
+          second-line = rw first-line at (arrived-line first-consistent (receiver two) (receiver-bound two) two bags₃ counts₃ at-second)
+
+          second-consistent : Consistent a₃
+          second-consistent = arrived-consistent first-consistent (receiver two) (receiver-bound two) two bags₃ counts₃ at-second
 
           -- the station stays
-          module _ (stay : d .gone ≡ false) where
-            pub stays-step : step line x ≡ done (lineIn n slots stations₁ bags₃ counts₃)
-            stays-step = rw (first-place, second-place) at (step-stays decided (goes .0) a b first-count second-count (goes .1) stay) ∙ ap done (sym second-line)
-
-            pub stays-kept : Kept n ns slots stations₁ bags₃ counts₃
-            stays-kept = record { tidy = second-tidy; sound = step-result line x (k .kept .sound) stays-step .sound }
+          pub stays : d .gone ≡ false → (step line x ≡ done (lineIn a₃)) × BetweenSteps a₃
+          stays stay =
+              let is = step-stays decided (verdicts .0) c₁ c₂ first-count second-count (verdicts .1) stay ∙ ap done (sym second-line) in
+              (is, record { consistent = second-consistent; sound = step-result line x (k .between .sound) is .sound })
 
           -- the station goes
-          module _ (leave : d .gone ≡ true) {ns′ slots′ : List ℕ} (dn : Dropped n i ns ns′) (ds : Dropped n i slots slots′) where
-            pub leaves-step : step line x ≡ done (lineIn (n - 1) slots′ stations₁ bags₃ counts₃)
-            leaves-step =
-                rw (first-place, second-place) at (step-leaves decided (goes .0) a b first-count second-count (goes .1) leave)
-                ∙ ap done (ap (removeAt i) (sym second-line) ∙ sym (dropped-line second-tidy i dn ds))
-
-            pub leaves-kept : Kept (n - 1) ns′ slots′ stations₁ bags₃ counts₃
-            leaves-kept =
-                let after = step-result line x (k .kept .sound) leaves-step .sound in
-                record { tidy = dropped-tidy second-tidy i dn ds (rw (dropped-numbered second-tidy i dn ds) (after .written .rising)); sound = after }
+          pub leaves : d .gone ≡ true → {index : List ℕ} → Dropped (a .n) i (a .index) index → (step line x ≡ done (lineIn (shortened a₃ index))) × BetweenSteps (shortened a₃ index)
+          leaves leave dropped =
+              let is =
+              step-leaves decided (verdicts .0) c₁ c₂ first-count second-count (verdicts .1) leave ∙ ap done (ap (removeAt i) (sym second-line) ∙ sym (dropped-line second-consistent i dropped)) in
+              let after = step-result line x (k .between .sound) is .sound in
+              (is, record { consistent = dropped-consistent second-consistent i dropped (rw (dropped-numbered second-consistent i dropped) (after .written .rising)); sound = after })

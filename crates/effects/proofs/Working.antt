@@ -1,76 +1,62 @@
 -- A step worked out: what the decision of the station at place i and the bags at the receivers' places say is what the step does.
-use Prim.Native.Nat.{ℕ, zero, suc, _<_}
+use Prim.Native.Nat.{ℕ, _<_}
 use mathlib.Core.Path.{_≡_, refl, sym, ap, ap₂, _∙_}
-use mathlib.Core.Logic.{_≢_, ⊎-elim}
+use mathlib.Core.Logic.{_≢_}
 use mathlib.Core.Bool.{Bool, true, false, cond, _&&_}
 use mathlib.Core.Option.{none, some}
-use mathlib.Core.List.{List, [], _∷_, _++_, List·Memᴰ as Member, List·Memᴰ·head as here, List·Memᴰ·tail as there, List·Memᴰ·not-nil, List·Memᴰ·cases-cons}
+use mathlib.Core.List.{List, List·Memᴰ as Member, Memᴰ·append-left, Memᴰ·append-right}
 use lib.ListN.{length, getD, set, length-set, length-map}
 use lib.Seq.{getD-set-same, getD-set-other, map-set-same}
+use Rattle.line.specs.Message.{holds}
 use Rattle.line.specs.declared.Message.{Message}
 use Rattle.line.specs.declared.Action.{Action}
 use Rattle.line.specs.declared.Action.the-variants.{Timeout, Deliver, Exit}
 use Rattle.line.specs.declared.Step as declared
 use Rattle.line.specs.declared.Refusal.{Refusal}
-use Rattle.line.specs.declared.Refusal.the-variants.{Full}
-use Rattle.line.specs.Lists.{all}
+use Rattle.line.specs.declared.Refusal.the-variants.{NotInBag, Full}
+use Rattle.lists.specs.Lists.{all}
 use Rattle.line.specs.Answer.{Answer, refused, done, _>>=_, require}
-use Rattle.line.specs.Site.{Site, Line, number, numbers, Present}
+use Rattle.line.specs.Node.{Node, Line, number, numbers, Present, nobody}
 use Rattle.line.specs.Links.{Linked}
 use Rattle.line.specs.Accepted.{Sided}
 use Rattle.line.specs.Nidec.{nidec}
 use Rattle.line.specs.Act.{Send, Effect, act}
 use Rattle.line.specs.Step.{replace, without, sendAll, hasRoom, commit, step}
-use Rattle.line.proofs.Answers.{require-true, require-false}
+use Rattle.line.proofs.Answers.{require-true, require-false, refused-done}
 use Rattle.line.proofs.NidecTest.{nidec-tested}
-use Rattle.line.proofs.Local.{Outcome, act-outcome}
+use Rattle.line.proofs.Local.{LinksKept, act-links}
 use Rattle.line.proofs.Sends.{Clear, clear-act}
 use Rattle.line.proofs.Whole.{Sound, fit-of}
-use Rattle.bag.specs.Places.{removeAt}
-use Rattle.block.specs.Said.{nobody}
-use Rattle.table.proofs.NumberLaws.{member-at}
-use Rattle.arrays.proofs.Sites.{map-at}
+use Rattle.line.proofs.Changes.{send-append, send-numbers, send-without, apart-across}
+use Rattle.line.proofs.Places.{place, withBag, bag-numbers, find-at, change-at, without-at, untouched}
+use Rattle.lists.specs.Places.{removeAt}
+use Rattle.lists.proofs.Lists.{all-append}
+use Rattle.lists.proofs.Elements.{member-at, map-at, remove-set}
 use Rattle.rules.specs.declared.Sending.{Sending}
 use Rattle.rules.specs.declared.Verdict.the-variants.{Done, Refused}
 use Rattle.rules.specs.declared.Decision.{Decision}
-use Rattle.rules.specs.Decided.{sent, bothSent, rest, effect, decided, Decides}
-use Rattle.moves.specs.Sends.{isExit, receiverOf, roomFor}
-use Rattle.effects.proofs.OnePlace.{find-at, change-at, without-at}
-use Rattle.effects.proofs.Posting.{place, withBag, arrived, bag-numbers, send-append, send-numbers, send-without, rooms-append, apart-across, receiver-within, receiver-there, send-one, room-one, untouched}
-
--- members of two lists, one after the other
-in-first : {A : Type 0} {x : A} (l r : List A) → Member x l → Member x (l ++ r)
-in-first [] r h = absurd (List·Memᴰ·not-nil h)
-in-first {A} {x} (y ∷ l) r h = ⊎-elim (λ (e : x ≡ y). here e) (λ (m : Member x l). there (in-first l r m)) (List·Memᴰ·cases-cons h)
-
-in-second : {A : Type 0} {x : A} (l r : List A) → Member x r → Member x (l ++ r)
-in-second [] r h = h
-in-second (y ∷ l) r h = there (in-second l r h)
-
--- a store at a place that then goes
-remove-set : {A : Type 0} (l : List A) (i : ℕ) (x : A) → removeAt i (set l i x) ≡ removeAt i l
-unfolding removeAt
-remove-set [] i x = refl
-remove-set (y ∷ l) zero x = refl
-remove-set {A} (y ∷ l) (suc i) x = ap (λ (r : List A). y ∷ r) (remove-set l i x)
+use Rattle.rules.specs.Decided.{sent, bothSent, rest, effect, decided, Decides, isFound}
+use Rattle.moves.specs.Holders.{isExit}
+use Rattle.moves.specs.Sends.{receiverOf, roomFor}
+use Rattle.effects.proofs.Posting.{arrived, receiver-within, receiver-there, send-one, room-one}
 
 -- NIDEC is looked at by an exit only
-act-alone : (a b : Bool) (s : Site) (c : Action) → (isExit c ≡ true → a ≡ b) → act b s c ≡ act a s c
+act-unless-exit : (a b : Bool) (s : Node) (c : Action) → (isExit c ≡ true → a ≡ b) → act b s c ≡ act a s c
 unfolding act
-act-alone a b s Timeout h = refl
-act-alone a b s (Deliver m) h = refl
-act-alone a b s Exit h = ap (λ (t : Bool). act t s Exit) (sym (h refl))
+act-unless-exit a b s Timeout h = refl
+act-unless-exit a b s (Deliver m) h = refl
+act-unless-exit a b s Exit h = ap (λ (t : Bool). act t s Exit) (sym (h refl))
 
 -- Station x .station stands at place i; d is its decision.
-pub record Decided (line : Line) (x : declared.Step) (i : ℕ) (alone : Bool) (d : Decision) : Type 0 where
+pub record Decided (line : Line) (x : declared.Step) (i : ℕ) (nidecHolds : Bool) (d : Decision) : Type 0 where
   pub sound : Sound line
   pub within : i < length line
   pub found : number (place line i) ≡ x .station
-  pub asked : isExit (x .action) ≡ true → alone ≡ nidec line (place line i)
-  pub decides : Decides alone ((place line i) .station) ((place line i) .bag) (x .action) d
+  pub asked : isExit (x .action) ≡ true → nidecHolds ≡ nidec line (place line i)
+  pub decides : Decides nidecHolds ((place line i) .station) ((place line i) .bag) (x .action) d
 
-module _ {line : Line} {x : declared.Step} {i : ℕ} {alone : Bool} {d : Decision} (k : Decided line x i alone d) where
-  abbrev here-is : Site
+module _ {line : Line} {x : declared.Step} {i : ℕ} {nidecHolds : Bool} {d : Decision} (k : Decided line x i nidecHolds d) where
+  abbrev here-is : Node
   here-is = place line i
 
   -- the bag of the station afterwards
@@ -78,12 +64,12 @@ module _ {line : Line} {x : declared.Step} {i : ℕ} {alone : Bool} {d : Decisio
   left = rest (x .action) (here-is .bag)
 
   acts : act (nidec line here-is) here-is (x .action) ≡ decided (d .verdict) (effect d left)
-  acts = act-alone alone (nidec line here-is) here-is (x .action) (k .asked) ∙ sym (k .decides .says)
+  acts = act-unless-exit nidecHolds (nidec line here-is) here-is (x .action) (k .asked) ∙ sym (k .decides .says)
 
   steps : step line x ≡ (decided (d .verdict) (effect d left) >>= (λ (e : Effect). commit line (number here-is) e))
   unfolding step _>>=_
   steps =
-      ap (λ (a : Answer Site). a >>= (λ (s : Site). act (nidec line s) s (x .action) >>= (λ (e : Effect). commit line (number s) e)))
+      ap (λ (a : Answer Node). a >>= (λ (s : Node). act (nidec line s) s (x .action) >>= (λ (e : Effect). commit line (number s) e)))
       (find-at (x .station) line i nobody (k .sound .written .rising) (k .within) (k .found))
       ∙ ap (λ (a : Answer Effect). a >>= (λ (e : Effect). commit line (number here-is) e)) acts
 
@@ -97,14 +83,24 @@ module _ {line : Line} {x : declared.Step} {i : ℕ} {alone : Bool} {d : Decisio
     acted : act (nidec line here-is) here-is (x .action) ≡ done (effect d left)
     acted = acts ∙ ap (λ v. decided v (effect d left)) go
 
+    -- a step that is done and delivers nothing leaves the bag as it is
+    pub unfound : isFound (x .action) (here-is .bag) ≡ false → left ≡ here-is .bag
+    unfolding act
+    unfound = same (x .action) acted
+      where
+        same : (c : Action) {e : Effect} → act (nidec line here-is) here-is c ≡ done e → isFound c (here-is .bag) ≡ false → rest c (here-is .bag) ≡ here-is .bag
+        same Timeout e f = refl
+        same (Deliver m) e f = refused-done (sym (require-false (holds m (here-is .bag)) NotInBag _ f) ∙ e)
+        same Exit e f = refl
+
     there-is : Member here-is line
     there-is = member-at line i nobody (k .within)
 
     sided : Sided here-is
     sided = k .sound .accepted .sided here-is there-is
 
-    outcome : Outcome line (number here-is) (Linked here-is) (effect d left .after) (effect d left .sends)
-    outcome = act-outcome line here-is sided (fit-of (k .sound) here-is there-is) (nidec line here-is) (nidec-tested line here-is .0) (x .action) acted
+    outcome : LinksKept line (number here-is) (Linked here-is) (effect d left .after) (effect d left .sends)
+    outcome = act-links line here-is sided (fit-of (k .sound) here-is there-is) (nidec line here-is) (nidec-tested line here-is .0) (x .action) acted
 
     clear : Clear (number here-is) (bothSent (d .sendings))
     clear = clear-act here-is sided (nidec line here-is) (x .action) acted
@@ -113,7 +109,7 @@ module _ {line : Line} {x : declared.Step} {i : ℕ} {alone : Bool} {d : Decisio
     reached : (m : Send) → Member m (bothSent (d .sendings)) → Linked here-is (m .to)
     reached = of (d .gone) outcome
       where
-        of : (g : Bool) → Outcome line (number here-is) (Linked here-is) (cond g none (some (record { station = d .station; bag = left }))) (bothSent (d .sendings))
+        of : (g : Bool) → LinksKept line (number here-is) (Linked here-is) (cond g none (some (record { station = d .station; bag = left }))) (bothSent (d .sendings))
             → (m : Send) → Member m (bothSent (d .sendings)) → Linked here-is (m .to)
         of true o m = o .fair .reaches m
         of false o m = o .fair .reaches m
@@ -121,7 +117,7 @@ module _ {line : Line} {x : declared.Step} {i : ℕ} {alone : Bool} {d : Decisio
     pub named : d .station .number ≡ number here-is
     named = of (d .gone) refl outcome
       where
-        of : (g : Bool) → d .gone ≡ g → Outcome line (number here-is) (Linked here-is) (cond g none (some (record { station = d .station; bag = left }))) (bothSent (d .sendings))
+        of : (g : Bool) → d .gone ≡ g → LinksKept line (number here-is) (Linked here-is) (cond g none (some (record { station = d .station; bag = left }))) (bothSent (d .sendings))
             → d .station .number ≡ number here-is
         of true e o = ap (λ s. s .number) (k .decides .itself e)
         of false e o = o .named
@@ -156,10 +152,10 @@ module _ {line : Line} {x : declared.Step} {i : ℕ} {alone : Bool} {d : Decisio
     at-two = receiverOf (numbers line) two i
 
     known-one : (m : Send) → Member m (sent one) → Present line (m .to)
-    known-one m h = known m (in-first (sent one) (sent two) h)
+    known-one m h = known m (Memᴰ·append-left (sent two) h)
 
     known-two : (m : Send) → Member m (sent two) → Present line (m .to)
-    known-two m h = known m (in-second (sent one) (sent two) h)
+    known-two m h = known m (Memᴰ·append-right (sent one) h)
 
     -- a receiver is not the sender
     elsewhere : (y : Sending) → ((m : Send) → Member m (sent y) → Present line (m .to)) → ((m : Send) → Member m (sent y) → Member m (bothSent (d .sendings)))
@@ -189,21 +185,21 @@ module _ {line : Line} {x : declared.Step} {i : ℕ} {alone : Bool} {d : Decisio
 
     -- a receiver's bag is the one that it had before the step
     pub first-unmoved : (m : Send) → Member m (sent one) → place stored at-one ≡ place line at-one
-    first-unmoved m h = getD-set-other line i at-one (record { station = d .station; bag = left }) nobody (elsewhere one known-one (λ n. in-first (sent one) (sent two)) m h)
+    first-unmoved m h = getD-set-other line i at-one (record { station = d .station; bag = left }) nobody (elsewhere one known-one (λ n. Memᴰ·append-left (sent two)) m h)
 
     pub second-unmoved : (m : Send) → Member m (sent two) → place first-posted at-two ≡ place line at-two
     second-unmoved m h =
-        let other = getD-set-other line i at-two (record { station = d .station; bag = left }) nobody (elsewhere two known-two (λ n. in-second (sent one) (sent two)) m h) in
+        let other = getD-set-other line i at-two (record { station = d .station; bag = left }) nobody (elsewhere two known-two (λ n. Memᴰ·append-right (sent one)) m h) in
         ap (λ (l : Line). place l at-two) (sym first-sent)
-        ∙ untouched stored one at-two (rw (length-set line i (record { station = d .station; bag = left })) (receiver-within line two i (k .within)))
+        ∙ untouched (sent one) stored at-two (rw (length-set line i (record { station = d .station; bag = left })) (receiver-within line two i (k .within)))
         (λ n g e. apart-across (sent one) (sent two) (clear .once) g h (sym e ∙ ap number other ∙ receiver-there line two i known-two m h))
         ∙ other
 
     -- the counts of the receivers' bags
     module _ (a b : ℕ) (a-is : a ≡ length ((place line at-one) .bag)) (b-is : b ≡ length ((place line at-two) .bag)) where
-      rooms : all (λ (m : Send). hasRoom line (m .to)) (bothSent (d .sendings)) ≡ (roomFor one a && roomFor two b)
+      rooms : all (hasRoom line) (bothSent (d .sendings)) ≡ (roomFor one a && roomFor two b)
       rooms =
-          rooms-append line (sent one) (sent two)
+          all-append (hasRoom line) (sent one) (sent two)
           ∙ ap₂ (λ (s t : Bool). s && t) (room-one line i (k .sound .written .rising) (k .within) one a known-one a-is)
           (room-one line i (k .sound .written .rising) (k .within) two b known-two b-is)
 
@@ -228,7 +224,7 @@ module _ {line : Line} {x : declared.Step} {i : ℕ} {alone : Bool} {d : Decisio
             fits
             ∙ ap (λ (g : Bool). done (sendAll (bothSent (d .sendings)) (replace (number here-is) (cond g none (some (record { station = d .station; bag = left }))) line))) e
             ∙ ap (λ (l : Line). done (sendAll (bothSent (d .sendings)) l))
-            (change-at (number here-is) (λ (t : Site). record { station = d .station; bag = left }) line i nobody (k .sound .written .rising) (k .within) refl)
+            (change-at (number here-is) (λ (t : Node). record { station = d .station; bag = left }) line i nobody (k .sound .written .rising) (k .within) refl)
             ∙ ap done posted
 
         -- the station goes

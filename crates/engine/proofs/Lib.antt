@@ -1,5 +1,4 @@
 -- Why the claims hold, and what the proofs of the run share.
 pub mod WholeLists
 pub mod Before
-pub mod Ending
 pub mod Written

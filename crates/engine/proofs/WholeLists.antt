@@ -12,21 +12,22 @@ use lib.Seq.{take-at}
 use borrow.Author.Tests.{eqb-true, eq-eqb}
 use Rattle.line.specs.Answer.{endingNumber}
 use Rattle.line.specs.Run as machine
-use Rattle.line.specs.Site.{Line, Written, lower, withBagInOrder, inWrittenOrder}
+use Rattle.line.specs.Node.{Line, Written, lower, withBagInOrder, inWrittenOrder}
 use Rattle.line.specs.Accepted.{Accepted}
 use Rattle.line.specs.Links.{Joined}
-use Rattle.line.proofs.Lists.{map-length, sort-length}
+use Rattle.lists.proofs.Lists.{map-length, sort-length}
 use Rattle.line.proofs.Runs as line
 use Rattle.line.proofs.WrittenOrder.{written-order-keeps}
-use Rattle.table.specs.Blocks.{sites, lineOf, bytesOf}
+use Rattle.table.specs.Blocks.{nodes, lineOf, bytesOf}
 use Rattle.table.specs.Fault.{faultOf}
-use Rattle.table.proofs.BlockLaws.{sites-length}
+use Rattle.table.proofs.BlockLaws.{nodes-length}
 use Rattle.table.proofs.FaultLaws.{accepted-passes}
 use Rattle.table.proofs.Accepting.{table-accepted, alike-tables}
 use Rattle.table.proofs.Circle.{written-accepted}
 use Rattle.arrays.proofs.Writing.{written-size}
-use Rattle.moves.specs.Steps.{stepsOf}
-use Rattle.engine.specs.Ran.{listHolds, roomHolds, faultBefore, runOf, refusedWith, endedWith, outcome, tableIn}
+use Rattle.steps.specs.Steps.{stepsOf}
+use Rattle.engine.specs.Ran.{listHolds, roomHolds, faultBefore, refusedWith, outcome, tableIn}
+use Rattle.finishing.specs.Ended.{runOf, endedWith}
 use Rattle.engine.specs.Claims.{SameOutcome, ReceiversAgree, JoinedKept, WrittenIsAccepted}
 
 -- a run that begins has read an accepted table
@@ -59,21 +60,21 @@ table-written t steps room h = ap tableIn (accepted-outcome t steps room h) ∙ 
 
 -- it is accepted, and its stations are that line
 read-again : (t steps room : List ℕ) → faultBefore t steps room ≡ 0
-    → (faultOf (tableIn (outcome t steps room)) ≡ 0) × (sites (tableIn (outcome t steps room)) ≡ (runOf t steps) .line)
+    → (faultOf (tableIn (outcome t steps room)) ≡ 0) × (nodes (tableIn (outcome t steps room)) ≡ (runOf t steps) .line)
 read-again t steps room h =
     let e = table-written t steps room h in
     let a = after-sound t steps (table-fault t steps room h) in
     let w = written-accepted ((runOf t steps) .line) (a .0) (a .1) in
-    (ap faultOf e ∙ w .0, ap sites e ∙ w .1)
+    (ap faultOf e ∙ w .0, ap nodes e ∙ w .1)
 
 -- so it is accepted
 pub written-is-accepted : WrittenIsAccepted
 written-is-accepted t steps room h = read-again t steps room h .0
 
 -- reading joins the stations that the stored order joins
-reading-joins : (t : List ℕ) → faultOf t ≡ 0 → (a b : ℕ) → Joined (sites t) a b ↔ Joined (lineOf t) a b
+reading-joins : (t : List ℕ) → faultOf t ≡ 0 → (a b : ℕ) → Joined (nodes t) a b ↔ Joined (lineOf t) a b
 unfolding lineOf
-reading-joins t h = written-order-keeps (sites t) (table-accepted t h .0) .3
+reading-joins t h = written-order-keeps (nodes t) (table-accepted t h .0) .3
 
 -- reading, the run and writing keep what is joined
 pub joined-kept : JoinedKept
@@ -89,7 +90,7 @@ table-length : (t : List ℕ) → faultOf t ≡ 0 → length t ≡ 512 * length 
 unfolding lineOf inWrittenOrder
 table-length t h =
     omega
-    (arith, sort-length lower (map withBagInOrder (sites t)), map-length withBagInOrder (sites t), sites-length t, eqb-true (length t % 512) 0 (accepted-passes t h .whole))
+    (arith, sort-length lower (map withBagInOrder (nodes t)), map-length withBagInOrder (nodes t), nodes-length t, eqb-true (length t % 512) 0 (accepted-passes t h .whole))
 
 -- tables of one line have one length
 same-length : (t u : List ℕ) → faultOf t ≡ 0 → faultOf u ≡ 0 → lineOf t ≡ lineOf u → length t ≡ length u

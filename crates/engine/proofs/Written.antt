@@ -11,8 +11,9 @@ use Rattle.table.specs.Blocks.{bytesOf}
 use Rattle.table.specs.Fault.{faultOf}
 use Rattle.table.proofs.Circle.{written-accepted}
 use Rattle.arrays.proofs.Writing.{written-size}
-use Rattle.engine.specs.declared.Ran.{Ran}
-use Rattle.engine.specs.Ran.{faultBefore, runOf, Outcome, refusedWith, endedWith, outcome, said, tableIn}
+use Rattle.finishing.specs.declared.Ran.{Ran}
+use Rattle.engine.specs.Ran.{faultBefore, refusedWith, outcome, tableIn}
+use Rattle.finishing.specs.Ended.{runOf, Outcome, endedWith, said}
 use Rattle.engine.proofs.WholeLists.{table-fault, after-sound, accepted-outcome, written-is-accepted}
 
 none-faulty : faultOf [] ≡ 0
@@ -20,6 +21,7 @@ unfolding bytesOf
 none-faulty = written-accepted [] (record {
   few = omega arith;
   ranged = λ s m. absurd (List·Memᴰ·not-nil m);
+  marked = λ s m. absurd (List·Memᴰ·not-nil m);
   small = λ s m. absurd (List·Memᴰ·not-nil m);
   sided = λ s m. absurd (List·Memᴰ·not-nil m);
   distinct = tt;

@@ -5,12 +5,13 @@ use mathlib.Core.Path.{_≡_}
 use mathlib.Core.Logic.{_↔_}
 use mathlib.Core.List.{List}
 use lib.ListN.{length}
-use Rattle.line.specs.Site.{Present}
+use Rattle.line.specs.Node.{Present}
 use Rattle.line.specs.Links.{Joined}
 use Rattle.line.specs.Alike.{Alike}
-use Rattle.table.specs.Blocks.{sites}
+use Rattle.table.specs.Blocks.{nodes}
 use Rattle.table.specs.Fault.{faultOf}
-use Rattle.engine.specs.Ran.{faultBefore, Outcome, outcome, tableIn}
+use Rattle.engine.specs.Ran.{faultBefore, outcome, tableIn}
+use Rattle.finishing.specs.Ended.{Outcome}
 
 -- the same answer, counts and written bytes
 pub record SameOutcome (x y : Outcome) : Type 0 where
@@ -23,7 +24,7 @@ pub record SameOutcome (x y : Outcome) : Type 0 where
 -- equal room lengths the same answer, counts and written bytes.
 abbrev pub ReceiversAgree : Type 0
 ReceiversAgree =
-    (t u steps room room′ : List ℕ) → faultOf t ≡ 0 → faultOf u ≡ 0 → Alike (sites t) (sites u) → length room ≡ length room′
+    (t u steps room room′ : List ℕ) → faultOf t ≡ 0 → faultOf u ≡ 0 → Alike (nodes t) (nodes u) → length room ≡ length room′
     → SameOutcome (outcome t steps room) (outcome u steps room′)
 
 -- 2. The line is never cut: of a run that writes a table, also one that stopped at a refused step, two stations with blocks in the table
@@ -31,8 +32,8 @@ ReceiversAgree =
 abbrev pub JoinedKept : Type 0
 JoinedKept =
     (t steps room : List ℕ) → faultBefore t steps room ≡ 0
-    → (a b : ℕ) → Present (sites (tableIn (outcome t steps room))) a → Present (sites (tableIn (outcome t steps room))) b
-    → Joined (sites t) a b ↔ Joined (sites (tableIn (outcome t steps room))) a b
+    → (a b : ℕ) → Present (nodes (tableIn (outcome t steps room))) a → Present (nodes (tableIn (outcome t steps room))) b
+    → Joined (nodes t) a b ↔ Joined (nodes (tableIn (outcome t steps room))) a b
 
 -- 3. What a run writes is accepted when it is read again.
 abbrev pub WrittenIsAccepted : Type 0

@@ -1,9 +1,45 @@
-// The run (document 01, "The numbers a crew may see" and "The whole run").
-pub mod runs;
+// The run over any bytes (document 01, "The numbers a crew may see" and "The whole run").
+use finishing::Ran;
+use running::run_accepted;
+use table::inspect;
+ghost use mathlib.Core.Path.{_≡_};
+ghost use Rattle.finishing.specs.Ended.{said};
+ghost use Rattle.engine.specs.Ran.{outcome};
 
-// What a run returns: its number, the steps done and the stations now.
-pub struct Ran {
-    pub answer: u32,
-    pub done: u32,
-    pub stations: u32,
+// Any bytes at all: the checks in the order of the numbers, then the steps.
+pub fn run(table: &[u8], steps: &[u8], room: &mut [u8]) -> Ran
+    ensures { λ r. ⌜ said r (now (room .exit)) ≡ outcome (now (table .entry)) (now (steps .entry)) (now (room .entry)) ⌝ }
+{
+    let inspected = inspect(table);
+    let fault = inspected.fault;
+    if fault != 0 {
+        return Ran {
+            answer: fault,
+            done: 0,
+            stations: 0,
+        };
+    }
+    if steps.len() % 12 != 0 {
+        return Ran {
+            answer: 8,
+            done: 0,
+            stations: 0,
+        };
+    }
+    if 4096 < steps.len() / 12 {
+        return Ran {
+            answer: 8,
+            done: 0,
+            stations: 0,
+        };
+    }
+    if room.len() < table.len() {
+        return Ran {
+            answer: 9,
+            done: 0,
+            stations: 0,
+        };
+    }
+    let index = inspected.index;
+    run_accepted(table, index, steps, room)
 }

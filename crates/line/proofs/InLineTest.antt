@@ -11,10 +11,11 @@ use Rattle.line.specs.declared.Neighbour.{Neighbour}
 use Rattle.line.specs.declared.Neighbour.the-variants.{None, Station}
 use Rattle.line.specs.declared.Side.{Side}
 use Rattle.line.specs.declared.Side.the-variants.{Left, Right}
-use Rattle.line.specs.Site.{Site, Line, number, numbers, Present, Beyond, neighbour, Rising}
+use Rattle.line.specs.Node.{Node, Line, number, numbers, Present, Beyond, neighbour}
+use Rattle.lists.specs.Numbers.{Rising}
 use Rattle.line.specs.InLine.{IsNext, isSame, first, inLineAfter, inLine}
 use Rattle.line.specs.Claims.{InLineTested}
-use Rattle.line.proofs.Lists.{clash, and-both, both-and}
+use Rattle.lists.proofs.Lists.{clash, and-both, both-and}
 use Rattle.line.proofs.Sides.{none-station, station-inj}
 
 pub is-same : (a b : Neighbour) → (isSame a b ≡ true) ↔ (a ≡ b)
@@ -55,7 +56,7 @@ record Walk (whole : Line) (prev : Neighbour) (l : Line) : Type 0 where
   split : (n : ℕ) → Present whole n → Passed prev n ⊎ Present l n
   rising : Rising (numbers l)
 
-module _ (whole : Line) (s : Site) (l : Line) where
+module _ (whole : Line) (s : Node) (l : Line) where
   -- what a number present is, seen from s
   place : (n : ℕ) → Present (s ∷ l) n → Rising (numbers (s ∷ l)) → (n ≡ number s) ⊎ (number s < n)
   place n m h = ⊎-elim inl (λ k. inr (h .0 n k)) (List·Memᴰ·cases-cons m)
@@ -86,7 +87,7 @@ module _ (whole : Line) (s : Site) (l : Line) where
       below None w n k = absurd k
       below (Station p) w n k = omega (arith, w .ahead (number s) (here refl))
 
-after-is-next : (whole : Line) (prev : Neighbour) (s : Site) (l : Line) → Walk whole prev (s ∷ l) → IsNext whole Right (number s) (first l)
+after-is-next : (whole : Line) (prev : Neighbour) (s : Node) (l : Line) → Walk whole prev (s ∷ l) → IsNext whole Right (number s) (first l)
 unfolding first
 after-is-next whole prev s [] w =
     λ r m h. ⊎-elim (λ k. not-above whole s [] prev w r k h) (λ k. ⊎-elim (λ e. omega arith) (λ i. List·Memᴰ·not-nil i) (List·Memᴰ·cases-cons k)) (w .split r m)
@@ -100,8 +101,8 @@ after-is-next whole prev s (t ∷ l) w = record {
 -- the walk finds each neighbour equal to the next station on its side
 module _ (whole : Line) where
   walked : (prev : Neighbour) (l : Line) → Walk whole prev l → inLineAfter prev l ≡ true
-      → (s : Site) → Member s l → (d : Side) → IsNext whole d (number s) (neighbour d (s .station))
-  unfolding inLineAfter neighbour
+      → (s : Node) → Member s l → (d : Side) → IsNext whole d (number s) (neighbour d (s .station))
+  unfolding inLineAfter
   walked prev [] w e s m d = absurd (List·Memᴰ·not-nil m)
   walked prev (t ∷ l) w e s m d = ⊎-elim (λ (z : s ≡ t). rw z (at d)) (λ k. walked (Station (number t)) l (step-on whole t l prev w) (rest .1) s k d) (List·Memᴰ·cases-cons m)
     where
@@ -115,9 +116,9 @@ module _ (whole : Line) where
       at Left = rw (is-same (t .station .left) prev .0 (parts .0)) (before-is-next whole t l prev w)
       at Right = rw (is-same (t .station .right) (first l) .0 (rest .0)) (after-is-next whole prev t l w)
 
-  walks : (prev : Neighbour) (l : Line) → Walk whole prev l → ((s : Site) → Member s l → (d : Side) → IsNext whole d (number s) (neighbour d (s .station)))
+  walks : (prev : Neighbour) (l : Line) → Walk whole prev l → ((s : Node) → Member s l → (d : Side) → IsNext whole d (number s) (neighbour d (s .station)))
       → inLineAfter prev l ≡ true
-  unfolding inLineAfter neighbour
+  unfolding inLineAfter
   walks prev [] w h = refl
   walks prev (t ∷ l) w h =
       both-and (is-same (t .station .left) prev .1 (next-unique whole Left (number t) (t .station .left) prev (h t (here refl) Left) (before-is-next whole t l prev w)))

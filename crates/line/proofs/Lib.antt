@@ -1,10 +1,12 @@
 -- Why the claims hold. Worked examples first: they pin the rules that the laws leave open.
 pub mod Worked
-pub mod Lists
+pub mod MarkWords
 pub mod Answers
 pub mod Messages
 pub mod Chains
 pub mod Sides
+pub mod Changes
+pub mod Places
 pub mod Sends
 pub mod Local
 pub mod NidecTest

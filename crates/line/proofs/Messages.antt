@@ -1,20 +1,20 @@
--- Laws of messages and bags. The laws of the machine cite only `Put` and `Taken` of a bag, so that another way of keeping bags can take their place.
+-- Laws of messages and bags. The laws of the machine cite only `Received`, `GivenUp` and `room-for` of a bag, so that another way of keeping bags can take their place.
 use mathlib.Core.Path.{_≡_, refl, sym, _∙_, ap}
-use mathlib.Core.Logic.{_⊎_, inl, inr, ⊎-elim}
+use mathlib.Core.Logic.{_↔_, _⊎_, inl, inr, ⊎-elim}
 use mathlib.Core.Bool.{Bool, true, false, cond, _&&_, _||_}
 use mathlib.Core.List.{List, [], _∷_, List·Memᴰ·cases-cons}
 use mathlib.Core.List.{List·Memᴰ as Member, List·Memᴰ·head as here, Memᴰ·cast}
 use Prim.Native.Nat.{ℕ, suc, _≤_, _<_}
 use native.Mathlib.Omega.{arith}
 use lib.Dec.{eqb, ltb}
-use borrow.Author.Tests.{eqb-true, ltb-true, ltb-false, eq-eqb}
+use borrow.Author.Tests.{eqb-true, ltb-true, ltb-false, lt-ltb, eq-eqb}
 use lib.ListN.{length}
 use Rattle.line.specs.declared.Content.{Content}
 use Rattle.line.specs.declared.Content.the-variants.{Introduction, RemoveLeft, RemoveRight}
 use Rattle.line.specs.declared.Message.{Message}
-use Rattle.line.specs.Lists.{count, Ordered, sort}
-use Rattle.line.specs.Message.{kind, carried, introduction, same, precedes, copies, holds, remove, put}
-use Rattle.line.proofs.Lists.{and-both, both-and, or-none, or-cases, fails, any-true, true-any, counted, counts-one, insert-self, insert-keeps, insert-mem, insert-length, Order, insert-ordered, sort-ordered, sort-count, removed-mem, mem-removed, removed-length, removed-ordered}
+use Rattle.lists.specs.Lists.{count, Ordered, sort}
+use Rattle.line.specs.Message.{kind, carried, introduction, same, precedes, copies, holds, remove, put, capacity}
+use Rattle.lists.proofs.Lists.{and-both, both-and, or-none, or-cases, fails, any-true, true-any, counted, counts-one, insert-self, insert-keeps, insert-mem, insert-length, Order, insert-ordered, sort-ordered, sort-count, removed-mem, mem-removed, removed-length, removed-ordered}
 
 -- a message is its kind and its number
 content-of : (c d : Content) → kind c ≡ kind d → carried c ≡ carried d → c ≡ d
@@ -108,31 +108,40 @@ pub mem-held : (m : Message) {b : List Message} → Member m b → holds m b ≡
 mem-held m k = true-any (same m) k (same-refl m)
 
 -- r is the bag b after it has received m
-pub record Put (m : Message) (b r : List Message) : Type 0 where
+pub record Received (m : Message) (b r : List Message) : Type 0 where
   pub arrives : Member m r
   pub keeps : (y : Message) → Member y b → Member y r
   pub only : (y : Message) → Member y r → (y ≡ m) ⊎ Member y b
-  pub size : length r ≡ suc (length b)
+  pub more : length b ≤ length r
+  pub size : length r ≤ suc (length b)
   pub order : Ordered precedes b → Ordered precedes r
 
-pub puts : (m : Message) (b : List Message) → Put m b (put m b)
-puts m b = record {
+pub receives : (m : Message) (b : List Message) → Received m b (put m b)
+receives m b = record {
   arrives = insert-self precedes m b;
   keeps = λ y k. insert-keeps precedes m b k;
   only = λ y k. insert-mem precedes m b k;
-  size = insert-length precedes m b;
+  more = omega (arith, insert-length precedes m b);
+  size = omega (arith, insert-length precedes m b);
   order = insert-ordered precedes precedes-order m b;
 }
 
--- r is the bag b after one copy of m has gone
-pub record Taken (m : Message) (b r : List Message) : Type 0 where
+-- the test for room says that the bag stays within its bound; this law alone knows that every copy counts
+pub room-for : (m : Message) (b : List Message) → (ltb (length b) capacity ≡ true) ↔ (length (put m b) ≤ capacity)
+room-for m b = (
+  λ e. omega (arith, insert-length precedes m b, ltb-true (length b) capacity e),
+  λ h. lt-ltb (length b) capacity (omega (arith, insert-length precedes m b)),
+)
+
+-- r is the bag b after it has given up m
+pub record GivenUp (m : Message) (b r : List Message) : Type 0 where
   pub from : (y : Message) → Member y r → Member y b
   pub kept : (y : Message) → Member y b → (y ≡ m) ⊎ Member y r
   pub size : length r ≤ length b
   pub order : Ordered precedes b → Ordered precedes r
 
-pub takes : (m : Message) (b : List Message) → Taken m b (remove m b)
-takes m b = record {
+pub gives-up : (m : Message) (b : List Message) → GivenUp m b (remove m b)
+gives-up m b = record {
   from = λ y k. removed-mem (same m) b k;
   kept = λ y k. ⊎-elim (λ e. inl (sym (same-true m y e))) inr (mem-removed (same m) b k);
   size = removed-length (same m) b;

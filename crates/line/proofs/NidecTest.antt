@@ -12,13 +12,13 @@ use Rattle.line.specs.declared.Neighbour.{Neighbour}
 use Rattle.line.specs.declared.Neighbour.the-variants.{None, Station}
 use Rattle.line.specs.declared.Message.{Message}
 use Rattle.line.specs.declared.Side.the-variants.{Left, Right}
-use Rattle.line.specs.Lists.{all}
+use Rattle.lists.specs.Lists.{all}
 use Rattle.line.specs.Message.{introduction, holds}
-use Rattle.line.specs.Site.{Site, Line, number, neighbour}
+use Rattle.line.specs.Node.{Node, Line, number}
 use Rattle.line.specs.Links.{Linked, by-neighbour, by-introduction}
 use Rattle.line.specs.Nidec.{Nidec, isNeighbour, names, isEmpty, nidec}
 use Rattle.line.specs.Claims.{NidecTested}
-use Rattle.line.proofs.Lists.{clash, and-both, both-and, or-cases, or-right, fails, all-true, true-all}
+use Rattle.lists.proofs.Lists.{clash, and-both, both-and, or-cases, or-right, fails, all-true, true-all}
 use Rattle.line.proofs.Messages.{held-mem, mem-held}
 
 pub is-neighbour : (n : ℕ) (k : Neighbour) → isNeighbour n k ≡ true → k ≡ Station n
@@ -30,16 +30,16 @@ neighbour-is : (n : ℕ) {k : Neighbour} → k ≡ Station n → isNeighbour n k
 unfolding isNeighbour
 neighbour-is n e = rw e (eq-eqb n n refl)
 
-pub names-linked : (n : ℕ) (s : Site) → names n s ≡ true → Linked s n
-unfolding names neighbour
+pub names-linked : (n : ℕ) (s : Node) → names n s ≡ true → Linked s n
+unfolding names
 names-linked n s e =
     ⊎-elim (λ h. by-neighbour Left (is-neighbour n (s .station .left) h))
     (λ h. ⊎-elim (λ i. by-neighbour Right (is-neighbour n (s .station .right) i)) (λ i. by-introduction (held-mem (introduction n) (s .bag) i))
     (or-cases (isNeighbour n (s .station .right)) (holds (introduction n) (s .bag)) h))
     (or-cases (isNeighbour n (s .station .left)) (isNeighbour n (s .station .right) || holds (introduction n) (s .bag)) e)
 
-pub linked-names : (n : ℕ) (s : Site) → Linked s n → names n s ≡ true
-unfolding names neighbour
+pub linked-names : (n : ℕ) (s : Node) → Linked s n → names n s ≡ true
+unfolding names
 linked-names n s (by-neighbour Left h) = rw (neighbour-is n h) refl
 linked-names n s (by-neighbour Right h) = or-right (isNeighbour n (s .station .left)) (rw (neighbour-is n h) refl)
 linked-names n s (by-introduction m) = or-right (isNeighbour n (s .station .left)) (or-right (isNeighbour n (s .station .right)) (mem-held (introduction n) m))
@@ -53,17 +53,17 @@ empty-is : {b : List Message} → b ≡ [] → isEmpty b ≡ true
 unfolding isEmpty
 empty-is e = rw e refl
 
-module _ (line : Line) (p : Site) where
-  silent : Site → Bool
+module _ (line : Line) (p : Node) where
+  silent : Node → Bool
   silent s = eqb (number s) (number p) || not (names (number p) s)
 
-  silent-unnamed : (s : Site) → silent s ≡ true → number s ≢ number p → ¬ Linked s (number p)
+  silent-unnamed : (s : Node) → silent s ≡ true → number s ≢ number p → ¬ Linked s (number p)
   unfolding silent
   silent-unnamed s e h l =
       ⊎-elim (λ i. h (eqb-true (number s) (number p) i)) (λ i. clash (linked-names (number p) s l) (not-true (names (number p) s) i))
       (or-cases (eqb (number s) (number p)) (not (names (number p) s)) e)
 
-  unnamed-silent : (s : Site) → (number s ≢ number p → ¬ Linked s (number p)) → silent s ≡ true
+  unnamed-silent : (s : Node) → (number s ≢ number p → ¬ Linked s (number p)) → silent s ≡ true
   unfolding silent
   unnamed-silent s h =
       by-cases (ℕ-discrete (number s) (number p)) (λ e. rw (eq-eqb (number s) (number p) e) refl)

@@ -1,15 +1,14 @@
 -- Figure 1 of the report and the step rules allow the same steps with the same effect, up to the bound of 32 messages a bag.
 use mathlib.Core.Path.{_≡_, refl, sym, _∙_, ap, ap₂, subst}
-use mathlib.Core.Logic.{_↔_, _≢_, _⊎_, inl, inr, ⊎-elim, by-cases}
-use mathlib.Core.Bool.{Bool, true, false, cond, not, _&&_, _||_}
+use mathlib.Core.Logic.{_≢_, ⊎-elim, by-cases}
+use mathlib.Core.Bool.{Bool, true, false, cond, not}
 use mathlib.Core.Option.{Option, none, some}
-use mathlib.Core.List.{List, [], _∷_, _++_, map, List·Memᴰ·not-nil, List·Memᴰ·cases-cons, Memᴰ·cast}
-use mathlib.Core.List.{List·Memᴰ as Member, List·Memᴰ·head as here, List·Memᴰ·tail as there}
-use Prim.Native.Nat.{ℕ, suc, _≤_, _<_}
+use mathlib.Core.List.{List, [], _∷_, _++_, map, List·Memᴰ·not-nil, List·Memᴰ·cases-cons}
+use mathlib.Core.List.{List·Memᴰ as Member}
+use Prim.Native.Nat.{ℕ, _≤_}
 use native.Mathlib.Omega.{arith}
 use native.Mathlib.Decide.{ℕ-discrete}
-use lib.Dec.{eqb, ltb}
-use borrow.Author.Tests.{eq-eqb, ne-eqb, lt-ltb, eqb-true, eqb-false}
+use lib.Dec.{eqb}
 use lib.ListN.{length}
 use Rattle.line.specs.declared.Neighbour.{Neighbour}
 use Rattle.line.specs.declared.Neighbour.the-variants.{None, Station}
@@ -17,36 +16,35 @@ use Rattle.line.specs.declared.Content.{Content}
 use Rattle.line.specs.declared.Content.the-variants.{Introduction, RemoveLeft, RemoveRight}
 use Rattle.line.specs.declared.Message.{Message}
 use Rattle.line.specs.declared.Refusal.{Refusal}
-use Rattle.line.specs.declared.Refusal.the-variants.{Absent, NotInBag, Staying, Held, Full}
-use Rattle.line.specs.declared.Station as declared
+use Rattle.line.specs.declared.Refusal.the-variants.{NotInBag, Staying, Held, Full}
 use Rattle.line.specs.declared.Step as steps
 use Rattle.line.specs.declared.Side.{Side}
 use Rattle.line.specs.declared.Side.the-variants.{Left, Right}
 use Rattle.line.specs.declared.Action.{Action}
 use Rattle.line.specs.declared.Action.the-variants.{Timeout, Deliver, Exit}
-use Rattle.line.specs.Lists.{all}
+use Rattle.lists.specs.Lists.{all}
 use Rattle.line.specs.Answer.{Answer, refused, done, _>>=_, require}
-use Rattle.line.specs.Message.{introduction, removal, holds, remove, capacity}
-use Rattle.line.specs.Site.{Site, Line, number, numbers, leaving, opposite, neighbour}
-use Rattle.line.specs.Nidec.{Nidec, nidec}
-use Rattle.line.specs.Accepted.{Distinct, Sided, Accepted}
+use Rattle.line.specs.Message.{introduction, removal, holds, remove, put}
+use Rattle.line.specs.Node.{Node, Line, number, leaving}
+use Rattle.line.specs.Nidec.{nidec}
+use Rattle.line.specs.Accepted.{Sided}
 use Rattle.line.specs.Act.{Send, sendTo, notice, timeout, received, introduceBoth, Effect, kept, act}
-use Rattle.line.specs.Step.{find, change, without, replace, receive, sendAll, hasRoom, commit, step}
+use Rattle.line.specs.Step.{find, change, replace, withMessage, sendAll, hasRoom, commit, step}
 use Rattle.line.specs.Report as report
-use Rattle.line.specs.Report.{−∞, +∞, process, isProcess, remleft, remright, Intro, Req, mail, Process, p, left, right, intro, req, not-leaving, defined, _and_, _⨾_, if_then_, if_then_else_, send_to_, exited, exit, handle, command, Guard, leftId, rightId, neighbourOf, processOf, siteOf, stateAfter, Fires}
-use Rattle.line.specs.Claims.{WithinCapacity, ReportAgrees}
-use Rattle.line.proofs.Lists.{clash, fails, all-true, true-all, or-right, mem-map}
+use Rattle.line.specs.Report.{process, isProcess, remleft, remright, Intro, Req, mail, Process, p, left, right, intro, req, not-leaving, defined, _and_, _⨾_, if_then_, if_then_else_, send_to_, exited, exit, handle, command, Guard, leftId, rightId, processOf, nodeOf, stateAfter, Fires}
+use Rattle.line.specs.Claims.{WithinCapacity, ReportAgrees, Apart}
+use Rattle.lists.proofs.Lists.{fails, true-all}
 use Rattle.line.proofs.Answers.{done-inj, refused-done, bound, bound-refused, require-true, require-false, required}
-use Rattle.line.proofs.Messages.{held-mem, mem-held, puts}
-use Rattle.line.proofs.Sides.{none-station, station-inj}
+use Rattle.line.proofs.Messages.{held-mem, mem-held, receives, room-for}
 use Rattle.line.proofs.Sends.{Clear, clear-act}
 use Rattle.line.proofs.NidecTest.{nidec-tested}
-use Rattle.line.proofs.Whole.{Sound, unique, found, takes-it, change-same, change-other, keeps-other, mem-without, receive-number, Room, has-room, step-result}
+use Rattle.line.proofs.Whole.{Sound, Room, step-result}
+use Rattle.line.proofs.Changes.{found, member-found, takes-it, change-same, change-other, keeps-other, mem-without, receive-number, true-room}
 use Rattle.line.proofs.ReportLocal.{Matches, start, request-matches, introduce-matches, id-back, idOn}
 
 -- Sends to two stations may change places.
-change-swap : (a c : ℕ) (f g : Site → Site) → a ≢ c → ((s : Site) → number (f s) ≡ number s) → ((s : Site) → number (g s) ≡ number s)
-    → (s : Site) → change c g (change a f s) ≡ change a f (change c g s)
+change-swap : (a c : ℕ) (f g : Node → Node) → a ≢ c → ((s : Node) → number (f s) ≡ number s) → ((s : Node) → number (g s) ≡ number s)
+    → (s : Node) → change c g (change a f s) ≡ change a f (change c g s)
 change-swap a c f g h x y s =
     by-cases (ℕ-discrete (number s) a)
     (λ (e : number s ≡ a). rw (change-same a f s e, change-other c g s (λ z. h (sym e ∙ z)), change-other c g (f s) (λ z. h (sym e ∙ sym (x s) ∙ z)), change-same a f s e))
@@ -54,9 +52,9 @@ change-swap a c f g h x y s =
     (λ (e : number s ≡ c). rw (change-other a f s k, change-same c g s e, change-other a f (g s) (λ z. k (sym (y s) ∙ z))))
     (λ (i : number s ≢ c). rw (change-other a f s k, change-other c g s i, change-other a f s k)))
 
-map-swap : (f g : Site → Site) → ((s : Site) → f (g s) ≡ g (f s)) → (line : Line) → map f (map g line) ≡ map g (map f line)
+map-swap : (f g : Node → Node) → ((s : Node) → f (g s) ≡ g (f s)) → (line : Line) → map f (map g line) ≡ map g (map f line)
 map-swap f g h [] = refl
-map-swap f g h (s ∷ line) = ap₂ (λ (t : Site) (l : Line). t ∷ l) (h s) (map-swap f g h line)
+map-swap f g h (s ∷ line) = ap₂ (λ (t : Node) (l : Line). t ∷ l) (h s) (map-swap f g h line)
 
 send-swap : (a b : Neighbour) (c e : Message) → ((x y : ℕ) → a ≡ Station x → b ≡ Station y → x ≢ y) → (line : Line)
     → sendAll (sendTo a c ++ sendTo b e) line ≡ sendAll (sendTo b e ++ sendTo a c) line
@@ -65,7 +63,7 @@ send-swap None None c e h line = refl
 send-swap None (Station y) c e h line = refl
 send-swap (Station x) None c e h line = refl
 send-swap (Station x) (Station y) c e h line =
-    map-swap (change y (receive e)) (change x (receive c)) (change-swap x y (receive c) (receive e) (h x y refl refl) (receive-number c) (receive-number e)) line
+    map-swap (change y (withMessage e)) (change x (withMessage c)) (change-swap x y (withMessage c) (withMessage e) (h x y refl refl) (receive-number c) (receive-number e)) line
 
 -- What the figure sends to a neighbour.
 intro-to : (d : Side) (n : ℕ) (k : Neighbour) → mail (Intro (process n)) (idOn d k) ≡ sendTo k (introduction n)
@@ -85,23 +83,22 @@ unfolding mail rightId sendTo
 req-right None = refl
 req-right (Station r) = refl
 
-module _ (line : Line) (s : Site) (ok : Sided s) where
+module _ (line : Line) (s : Node) (ok : Sided s) where
   -- the two neighbours are two stations
   sides-differ : (x y : ℕ) → s .station .left ≡ Station x → s .station .right ≡ Station y → x ≢ y
-  unfolding neighbour
   sides-differ x y e f z = omega (arith, ok Left x e, ok Right y f, z)
 
-  same-site : siteOf (processOf s) ≡ some s
-  unfolding siteOf processOf
-  same-site = rw (id-back Left (s .station .left), id-back Right (s .station .right))
+  same-node : nodeOf (processOf s) ≡ some s
+  unfolding nodeOf processOf
+  same-node = rw (id-back Left (s .station .left), id-back Right (s .station .right))
 
   -- the state after process v has run its command
   state : Process → Line
-  state v = sendAll (v .sent) (replace (number s) (siteOf v) line)
+  state v = sendAll (v .sent) (replace (number s) (nodeOf v) line)
 
   timeout-agrees : stateAfter line s Timeout ≡ sendAll (timeout (s .station)) (replace (number s) (some s) line)
-  unfolding state stateAfter command report.timeout if_then_else_ not-leaving timeout notice opposite processOf siteOf _⨾_ send_to_ intro req p left right
-  timeout-agrees = go (s .station .leaving) refl
+  unfolding state stateAfter command report.timeout if_then_else_ not-leaving timeout notice processOf nodeOf _⨾_ send_to_ intro req p left right
+  timeout-agrees = go (s .station .marks .leaving) refl
     where
       n : ℕ
       n = number s
@@ -118,16 +115,16 @@ module _ (line : Line) (s : Site) (ok : Sided s) where
       here-after : Line
       here-after = replace n (some s) line
 
-      figure : {t : Bool} → s .station .leaving ≡ t
+      figure : {t : Bool} → s .station .marks .leaving ≡ t
           → command Timeout (processOf s)
           ≡ cond (not t) ((send intro p to left ⨾ send intro p to right) (processOf s)) ((send req remleft to right ⨾ send req remright to left) (processOf s))
       figure e = ap (λ (t : Bool). cond (not t) ((send intro p to left ⨾ send intro p to right) (processOf s)) ((send req remleft to right ⨾ send req remright to left) (processOf s))) e
 
-      -- what is sent in this state, with the site as it is
-      sent-from : (k : List Send) → sendAll k (replace n (siteOf (processOf s)) line) ≡ sendAll k here-after
-      sent-from k = ap (λ (o : Option Site). sendAll k (replace n o line)) same-site
+      -- what is sent in this state, with the node as it is
+      sent-from : (k : List Send) → sendAll k (replace n (nodeOf (processOf s)) line) ≡ sendAll k here-after
+      sent-from k = ap (λ (o : Option Node). sendAll k (replace n o line)) same-node
 
-      go : (t : Bool) → s .station .leaving ≡ t → stateAfter line s Timeout ≡ sendAll (timeout (s .station)) here-after
+      go : (t : Bool) → s .station .marks .leaving ≡ t → stateAfter line s Timeout ≡ sendAll (timeout (s .station)) here-after
       go false e =
           ap state (figure e) ∙ sent-from (mail (Intro (process n)) (leftId l) ++ mail (Intro (process n)) (rightId r))
           ∙ ap (λ (k : List Send). sendAll k here-after) (ap₂ (λ (x y : List Send). x ++ y) (intro-to Left n l) (intro-to Right n r))
@@ -139,11 +136,11 @@ module _ (line : Line) (s : Site) (ok : Sided s) where
           ∙ sym (ap (λ (t : Bool). sendAll (sends t) here-after) e)
 
   exit-agrees : stateAfter line s Exit ≡ sendAll (introduceBoth (s .station .left) (s .station .right)) (replace (number s) none line)
-  unfolding state stateAfter command exit processOf siteOf _⨾_ if_then_ _and_ defined isProcess send_to_ intro left right exited mail leftId rightId introduceBoth sendTo
+  unfolding state stateAfter command exit processOf nodeOf _⨾_ if_then_ _and_ defined isProcess send_to_ intro left right exited mail leftId rightId introduceBoth sendTo
   exit-agrees = gone (s .station .left) (s .station .right) sides-differ
     where
       leaves : Neighbour → Neighbour → Process
-      leaves a c = exit (record { p = number s; leaving = s .station .leaving; left = leftId a; right = rightId c; C = s .bag; sent = []; exited = false })
+      leaves a c = exit (record { p = number s; marks = s .station .marks; left = leftId a; right = rightId c; C = s .bag; sent = []; exited = false })
 
       gone : (a c : Neighbour) → ((x y : ℕ) → a ≡ Station x → c ≡ Station y → x ≢ y) → state (leaves a c) ≡ sendAll (introduceBoth a c) (replace (number s) none line)
       gone None None h = refl
@@ -161,20 +158,20 @@ module _ (line : Line) (s : Site) (ok : Sided s) where
   unfolding stateAfter command report.receive processOf _⨾_ start
   deliver-agrees m =
       let w = received-matches (remove m (s .bag)) (m .content) in
-      ap₂ (λ (k : List Send) (o : Option Site). sendAll k (replace (number s) o line)) (w .sent) (w .site)
+      ap₂ (λ (k : List Send) (o : Option Node). sendAll k (replace (number s) o line)) (w .sent) (w .node)
 
   -- an action that the rules allow leads where the figure leads, and its guard holds
-  agrees : (alone : Bool) (a : Action) {e : Effect} → act alone s a ≡ done e → stateAfter line s a ≡ sendAll (e .sends) (replace (number s) (e .after) line)
+  agrees : (nidecHolds : Bool) (a : Action) {e : Effect} → act nidecHolds s a ≡ done e → stateAfter line s a ≡ sendAll (e .sends) (replace (number s) (e .after) line)
   unfolding act
-  agrees alone Timeout h = subst (λ (e : Effect). stateAfter line s Timeout ≡ sendAll (e .sends) (replace (number s) (e .after) line)) (done-inj h) timeout-agrees
-  agrees alone (Deliver m) h =
+  agrees nidecHolds Timeout h = subst (λ (e : Effect). stateAfter line s Timeout ≡ sendAll (e .sends) (replace (number s) (e .after) line)) (done-inj h) timeout-agrees
+  agrees nidecHolds (Deliver m) h =
       subst (λ (e : Effect). stateAfter line s (Deliver m) ≡ sendAll (e .sends) (replace (number s) (e .after) line)) (done-inj (required (holds m (s .bag)) NotInBag h .1)) (deliver-agrees m)
-  agrees alone Exit h =
+  agrees nidecHolds Exit h =
       subst (λ (e : Effect). stateAfter line s Exit ≡ sendAll (e .sends) (replace (number s) (e .after) line))
-      (done-inj (required alone Held (required (leaving s) Staying h .1) .1)) exit-agrees
+      (done-inj (required nidecHolds Held (required (leaving s) Staying h .1) .1)) exit-agrees
 
 -- The guard of the figure is what the rules ask.
-module _ (line : Line) (s : Site) where
+module _ (line : Line) (s : Node) where
   guarded : (a : Action) {e : Effect} → act (nidec line s) s a ≡ done e → Guard line s a
   unfolding act
   guarded Timeout h = tt
@@ -218,49 +215,40 @@ find-not-full n (s ∷ line) h = go (eqb (number s) n) (find-not-full n line) h
     go true f h = let z : _≡_ {A = ℕ} 0 1 = cc in omega arith
     go false f h = f h
 
--- the station of a number is found
-found-it : (line : Line) (s : Site) (n : ℕ) → Distinct (numbers line) → Member s line → number s ≡ n → find n line ≡ done s
-unfolding find
-found-it (t ∷ line) s n d m e = go (eqb (number t) n) refl (List·Memᴰ·cases-cons m) (λ k. found-it line s n (d .1) k e)
-  where
-    go : (u : Bool) → eqb (number t) n ≡ u → (s ≡ t) ⊎ Member s line → (Member s line → find n line ≡ done s) → cond u (done t) (find n line) ≡ done s
-    go true z (inl p) f = ap done (sym p)
-    go true z (inr k) f = absurd (d .0 (number s) (mem-map number k) (eqb-true (number t) n z ∙ sym e))
-    go false z (inl p) f = absurd (eqb-false (number t) n z (sym (ap number p) ∙ e))
-    go false z (inr k) f = f k
+receive-bag : (m : Message) (t : Node) → (withMessage m t) .bag ≡ put m (t .bag)
+unfolding withMessage
+receive-bag m t = refl
 
-receive-size : (m : Message) (t : Site) → length ((receive m t) .bag) ≡ suc (length (t .bag))
-unfolding receive
-receive-size m t = puts m (t .bag) .size
+-- Bags never shrink while messages are sent, and a receiver's bag has what it received: what has become of node t.
+record Grown (l : List Send) (t : Node) (after : Line) : Type 0 where
+  node : Node
+  member : Member node after
+  named : number node ≡ number t
+  more : length (t .bag) ≤ length (node .bag)
+  received : (m : Send) → Member m l → m .to ≡ number t → length (put (m .message) (t .bag)) ≤ length (node .bag)
 
--- Bags only grow while messages are sent, and a receiver's bag grows by one at least: what has become of site t.
-record Grown (l : List Send) (t : Site) (after : Line) : Type 0 where
-  site : Site
-  member : Member site after
-  named : number site ≡ number t
-  more : length (t .bag) ≤ length (site .bag)
-  received : (m : Send) → Member m l → m .to ≡ number t → length (t .bag) < length (site .bag)
-
-grows : (l : List Send) (line : Line) (t : Site) → Member t line → Grown l t (sendAll l line)
+grows : (l : List Send) (line : Line) (t : Node) → Apart l → Member t line → Grown l t (sendAll l line)
 unfolding sendAll
-grows [] line t k = record { site = t; member = k; named = refl; more = omega arith; received = λ m i. absurd (List·Memᴰ·not-nil i) }
-grows (m ∷ l) line t k = by-cases (ℕ-discrete (number t) (m .to)) (λ e. gets (grows l (map f line) (receive (m .message) t) (takes-it (m .to) (receive (m .message)) k e))) (λ h. stays h (grows l (map f line) t (keeps-other (m .to) (receive (m .message)) k h)))
+grows [] line t a k = record { node = t; member = k; named = refl; more = omega arith; received = λ m i. absurd (List·Memᴰ·not-nil i) }
+grows (m ∷ l) line t a k =
+    by-cases (ℕ-discrete (number t) (m .to)) (λ e. gets e (grows l (map f line) (withMessage (m .message) t) (a .1) (takes-it (m .to) (withMessage (m .message)) k e)))
+    (λ h. stays h (grows l (map f line) t (a .1) (keeps-other (m .to) (withMessage (m .message)) k h)))
   where
-    f : Site → Site
-    f = change (m .to) (receive (m .message))
+    f : Node → Node
+    f = change (m .to) (withMessage (m .message))
 
-    gets : Grown l (receive (m .message) t) (sendAll l (map f line)) → Grown (m ∷ l) t (sendAll l (map f line))
-    gets g = record {
-      site = g .site;
+    gets : number t ≡ m .to → Grown l (withMessage (m .message) t) (sendAll l (map f line)) → Grown (m ∷ l) t (sendAll l (map f line))
+    gets e g = record {
+      node = g .node;
       member = g .member;
       named = g .named ∙ receive-number (m .message) t;
-      more = omega (arith, g .more, receive-size (m .message) t);
-      received = λ i j z. omega (arith, g .more, receive-size (m .message) t);
+      more = omega (arith, rw (receive-bag (m .message) t) at (g .more), receives (m .message) (t .bag) .more);
+      received = λ i j z. ⊎-elim (λ (y : i ≡ m). rw (y, ← receive-bag (m .message) t) (g .more)) (λ n. absurd (a .0 i n (sym e ∙ sym z))) (List·Memᴰ·cases-cons j);
     }
 
     stays : number t ≢ m .to → Grown l t (sendAll l (map f line)) → Grown (m ∷ l) t (sendAll l (map f line))
     stays h g = record {
-      site = g .site;
+      node = g .node;
       member = g .member;
       named = g .named;
       more = g .more;
@@ -268,67 +256,61 @@ grows (m ∷ l) line t k = by-cases (ℕ-discrete (number t) (m .to)) (λ e. get
     }
 
 -- room, as a test
-room-has : (n : ℕ) (line : Line) → Room line n → hasRoom line n ≡ true
-unfolding hasRoom
-room-has n line r = true-all (λ (s : Site). not (eqb (number s) n) || ltb (length (s .bag)) capacity) line each
-  where
-    each : (s : Site) → Member s line → (not (eqb (number s) n) || ltb (length (s .bag)) capacity) ≡ true
-    each s m =
-        by-cases (ℕ-discrete (number s) n) (λ e. or-right (not (eqb (number s) n)) (lt-ltb (length (s .bag)) capacity (r s m e)))
-        (λ h. rw (ne-eqb (number s) n h) refl)
+room-has : (m : Send) (line : Line) → Room line m → hasRoom line m ≡ true
+room-has m line r = true-room m line (λ t k e. room-for (m .message) (t .bag) .1 (r t k e))
 
--- a site of another number is where it was
-replaced-keeps : (n : ℕ) (o : Option Site) {line : Line} {t : Site} → Member t line → number t ≢ n → Member t (replace n o line)
+-- a node of another number is where it was
+replaced-keeps : (n : ℕ) (o : Option Node) {line : Line} {t : Node} → Member t line → number t ≢ n → Member t (replace n o line)
 unfolding replace
 replaced-keeps n none {line} m h = mem-without n line m h
-replaced-keeps n (some u) m h = keeps-other n (λ (t : Site). u) m h
+replaced-keeps n (some u) m h = keeps-other n (λ (t : Node). u) m h
 
 -- if no bag holds more than 32 afterwards, every receiver had room
 within-room : (line : Line) (n : ℕ) (e : Effect) → Clear n (e .sends) → WithinCapacity (sendAll (e .sends) (replace n (e .after) line))
-    → all (λ (m : Send). hasRoom line (m .to)) (e .sends) ≡ true
-within-room line n e c w = true-all (λ (m : Send). hasRoom line (m .to)) (e .sends) (λ m i. room-has (m .to) line (room m i))
+    → all (hasRoom line) (e .sends) ≡ true
+within-room line n e c w = true-all (hasRoom line) (e .sends) (λ m i. room-has m line (room m i))
   where
-    room : (m : Send) → Member m (e .sends) → Room line (m .to)
+    room : (m : Send) → Member m (e .sends) → Room line m
     room m i t k z =
-        let g = grows (e .sends) (replace n (e .after) line) t (replaced-keeps n (e .after) k (λ y. c .away m i (sym z ∙ y))) in
-        omega (arith, g .received m i (sym z), w (g .site) (g .member))
+        let g = grows (e .sends) (replace n (e .after) line) t (c .once) (replaced-keeps n (e .after) k (λ y. c .away m i (sym z ∙ y))) in
+        omega (arith, g .received m i (sym z), w (g .node) (g .member))
 
 -- The step in its parts: the station found, its effect, and what is committed.
 module _ (line : Line) (x : steps.Step) (ok : Sound line) where
   record Parts : Type 0 where
-    site : Site
-    member : Member site line
-    is-found : find (x .station) line ≡ done site
+    node : Node
+    member : Member node line
+    finds : find (x .station) line ≡ done node
     effect : Effect
-    acts : act (nidec line site) site (x .action) ≡ done effect
+    acts : act (nidec line node) node (x .action) ≡ done effect
 
   module _ (q : Parts) where
     room : Bool
-    room = all (λ (m : Send). hasRoom line (m .to)) (q .effect .sends)
+    room = all (hasRoom line) (q .effect .sends)
 
     after : Line
-    after = sendAll (q .effect .sends) (replace (number (q .site)) (q .effect .after) line)
+    after = sendAll (q .effect .sends) (replace (number (q .node)) (q .effect .after) line)
 
     step-is : step line x ≡ require room Full (done after)
     unfolding step commit _>>=_ room after
-    step-is = rw (q .is-found, q .acts) refl
+    step-is = rw (q .finds, q .acts) refl
 
-    sided : Sided (q .site)
-    sided = ok .accepted .sided (q .site) (q .member)
+    sided : Sided (q .node)
+    sided = ok .accepted .sided (q .node) (q .member)
 
     fires : Fires line x after
     unfolding after
     fires = record {
-      site = q .site;
+      node = q .node;
       member = q .member;
-      named = found (x .station) line (q .is-found) .1;
-      guard = guarded line (q .site) (x .action) (q .acts);
-      result = sym (agrees line (q .site) sided (nidec line (q .site)) (x .action) (q .acts));
+      named = found (x .station) line (q .finds) .1;
+      guard = guarded line (q .node) (x .action) (q .acts);
+      result = sym (agrees line (q .node) sided (nidec line (q .node)) (x .action) (q .acts));
     }
 
     within : WithinCapacity after → room ≡ true
     unfolding after room
-    within w = within-room line (number (q .site)) (q .effect) (clear-act (q .site) sided (nidec line (q .site)) (x .action) (q .acts)) w
+    within w = within-room line (number (q .node)) (q .effect) (clear-act (q .node) sided (nidec line (q .node)) (x .action) (q .acts)) w
 
     is-done : room ≡ true → step line x ≡ done after
     is-done e = step-is ∙ require-true room Full (done after) e
@@ -339,33 +321,33 @@ module _ (line : Line) (x : steps.Step) (ok : Sound line) where
   -- whatever fires has its parts
   parts-of : {after : Line} → Fires line x after → Parts
   parts-of f =
-      let a = allowed line (f .site) (x .action) (f .guard) in
+      let a = allowed line (f .node) (x .action) (f .guard) in
       record {
-        site = f .site;
+        node = f .node;
         member = f .member;
-        is-found = found-it line (f .site) (x .station) (ok .accepted .distinct) (f .member) (f .named);
+        finds = member-found (x .station) line (ok .accepted .distinct) (f .member) (f .named);
         effect = a .0;
         acts = a .1;
       }
 
   leads-there : {s : Line} (f : Fires line x s) → s ≡ after (parts-of f)
   unfolding after parts-of
-  leads-there f = f .result ∙ agrees line (f .site) (ok .accepted .sided (f .site) (f .member)) (nidec line (f .site)) (x .action) (allowed line (f .site) (x .action) (f .guard) .1)
+  leads-there f = f .result ∙ agrees line (f .node) (ok .accepted .sided (f .node) (f .member)) (nidec line (f .node)) (x .action) (allowed line (f .node) (x .action) (f .guard) .1)
 
   -- the parts of a step that is done, or refused for want of room
   parts-done : {s : Line} → step line x ≡ done s → Parts
   unfolding step
   parts-done e =
-      let w = bound (find (x .station) line) (λ (s : Site). act (nidec line s) s (x .action) >>= (λ (e : Effect). commit line (number s) e)) e in
+      let w = bound (find (x .station) line) (λ (s : Node). act (nidec line s) s (x .action) >>= (λ (e : Effect). commit line (number s) e)) e in
       let v = bound (act (nidec line (w .0)) (w .0) (x .action)) (λ (e : Effect). commit line (number (w .0)) e) (w .2) in
-      record { site = w .0; member = found (x .station) line (w .1) .0; is-found = w .1; effect = v .0; acts = v .1 }
+      record { node = w .0; member = found (x .station) line (w .1) .0; finds = w .1; effect = v .0; acts = v .1 }
 
   parts-full : step line x ≡ refused Full → Parts
   unfolding step
   parts-full e =
-      let w = bound-refused (find (x .station) line) (λ (s : Site). act (nidec line s) s (x .action) >>= (λ (e : Effect). commit line (number s) e)) (find-not-full (x .station) line) e in
+      let w = bound-refused (find (x .station) line) (λ (s : Node). act (nidec line s) s (x .action) >>= (λ (e : Effect). commit line (number s) e)) (find-not-full (x .station) line) e in
       let v = bound-refused (act (nidec line (w .0)) (w .0) (x .action)) (λ (e : Effect). commit line (number (w .0)) e) (never-full line (w .0) (x .action)) (w .2) in
-      record { site = w .0; member = found (x .station) line (w .1) .0; is-found = w .1; effect = v .0; acts = v .1 }
+      record { node = w .0; member = found (x .station) line (w .1) .0; finds = w .1; effect = v .0; acts = v .1 }
 
 pub report-agrees : ReportAgrees
 report-agrees line x a w = (λ s. (done-fires s, λ f. fires-done s (f .0) (f .1)), (full-fires, λ f. fires-full (f .0) (f .1) (f .2)))

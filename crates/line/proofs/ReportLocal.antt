@@ -1,38 +1,36 @@
 -- What Figure 1 of the report does at a process is what the step rules do at a station.
 use mathlib.Core.Path.{_≡_, refl, sym, _∙_, ap, subst, subst₂}
-use mathlib.Core.Logic.{_≢_, _⊎_, inl, inr, ⊎-elim, by-cases}
-use mathlib.Core.Bool.{Bool, true, false, cond, not, _&&_}
-use mathlib.Core.Option.{Option, none, some}
-use mathlib.Core.List.{List, [], _∷_, _++_}
-use Prim.Native.Nat.{ℕ, _≤_, _<_}
+use mathlib.Core.Logic.{_≢_, by-cases}
+use mathlib.Core.Bool.{Bool, true, false, cond, not, _&&_, and-true, and-false}
+use mathlib.Core.Option.{some}
+use mathlib.Core.List.{List, []}
+use Prim.Native.Nat.{ℕ, _≤_}
 use native.Mathlib.Omega.{arith}
 use native.Mathlib.Decide.{ℕ-discrete}
 use lib.Dec.{eqb, ltb}
 use borrow.Author.Tests.{lt-ltb, le-ltb, eq-eqb, ne-eqb, ltb-true, ltb-false, eqb-true, eqb-false}
 use Rattle.line.specs.declared.Neighbour.{Neighbour}
 use Rattle.line.specs.declared.Neighbour.the-variants.{None, Station}
-use Rattle.line.specs.declared.Content.{Content}
-use Rattle.line.specs.declared.Content.the-variants.{Introduction, RemoveLeft, RemoveRight}
 use Rattle.line.specs.declared.Message.{Message}
+use Rattle.line.specs.declared.Marks.{Marks}
 use Rattle.line.specs.declared.Station as declared
 use Rattle.line.specs.declared.Side.{Side}
 use Rattle.line.specs.declared.Side.the-variants.{Left, Right}
 use Rattle.line.specs.Message.{introduction, removal}
-use Rattle.line.specs.Site.{Site, Beyond, opposite, beyond, sideOf, neighbour, withNeighbour}
+use Rattle.line.specs.Node.{Beyond, opposite, beyond, sideOf, withNeighbour}
 use Rattle.line.specs.Accepted.{Sided}
-use Rattle.line.specs.Act.{Send, send as one, sendTo, notice, timeout, Reaction, unchanged, meet, introduced, dropNeighbour, obeys, removed, received, introduceBoth}
-use Rattle.line.specs.Report as report
-use Rattle.line.specs.Report.{Expression, Command, Id, −∞, +∞, process, less, isProcess, Direction, remleft, remright, Mail, Intro, Req, mail, Process, p, left, right, always, intro, req, not-leaving, defined, _below_, _and_, _⨾_, if_then_, if_then_else_, send_to_, left:=_, right:=_, exited, introduce, request, handle, leftId, rightId, neighbourOf, siteOf}
-use Rattle.line.proofs.Sides.{site, sideOf-beyond, beyond-true, beyond-other}
+use Rattle.line.specs.Act.{Send, send as one, sendTo, Reaction, unchanged, meet, introduced, dropNeighbour, removed, received}
+use Rattle.line.specs.Report.{Command, Id, −∞, +∞, process, less, remleft, Intro, mail, Process, p, left, right, always, intro, not-leaving, _below_, _and_, _⨾_, if_then_, send_to_, left:=_, right:=_, exited, introduce, request, handle, leftId, rightId, neighbourOf, nodeOf}
+use Rattle.line.proofs.Sides.{node, sideOf-beyond, beyond-true, beyond-other}
 
 -- A process is seen from one side: X is its variable there, Y the other one.
-abbrev facing : Side → ℕ → Bool → List Message → Id → Id → List Send → Process
-facing Left n g b X Y sent = record { p = n; leaving = g; left = X; right = Y; C = b; sent = sent; exited = false }
-facing Right n g b X Y sent = record { p = n; leaving = g; left = Y; right = X; C = b; sent = sent; exited = false }
+abbrev facing : Side → ℕ → Marks → List Message → Id → Id → List Send → Process
+facing Left n g b X Y sent = record { p = n; marks = g; left = X; right = Y; C = b; sent = sent; exited = false }
+facing Right n g b X Y sent = record { p = n; marks = g; left = Y; right = X; C = b; sent = sent; exited = false }
 
-abbrev station : Side → ℕ → Bool → Neighbour → Neighbour → declared.Station
-station Left n g k o = record { number = n; left = k; right = o; leaving = g }
-station Right n g k o = record { number = n; left = o; right = k; leaving = g }
+abbrev station : Side → ℕ → Marks → Neighbour → Neighbour → declared.Station
+station Left n g k o = record { number = n; left = k; right = o; marks = g }
+station Right n g k o = record { number = n; left = o; right = k; marks = g }
 
 abbrev pub idOn : Side → Neighbour → Id
 idOn Left k = leftId k
@@ -54,20 +52,20 @@ neighbour-of : (n : ℕ) → neighbourOf (process n) ≡ Station n
 unfolding neighbourOf
 neighbour-of n = refl
 
-become : (d : Side) (n : ℕ) (g : Bool) (b : List Message) (X Y : Id) (sent : List Send)
-    → siteOf (facing d n g b X Y sent) ≡ some (site (station d n g (neighbourOf X) (neighbourOf Y)) b)
-unfolding siteOf
+become : (d : Side) (n : ℕ) (g : Marks) (b : List Message) (X Y : Id) (sent : List Send)
+    → nodeOf (facing d n g b X Y sent) ≡ some (node (station d n g (neighbourOf X) (neighbourOf Y)) b)
+unfolding nodeOf
 become Left n g b X Y sent = refl
 become Right n g b X Y sent = refl
 
 -- process v has become the station of reaction r, with bag b, and has sent what the rules send
 pub record Matches (b : List Message) (v : Process) (r : Reaction) : Type 0 where
   pub sent : v .sent ≡ r .sends
-  pub site : siteOf v ≡ some (site (r .station) b)
+  pub node : nodeOf v ≡ some (node (r .station) b)
 
-matches : (d : Side) (n : ℕ) (g : Bool) (b : List Message) (X Y : Id) (k o : Neighbour) (l : List Send) {v : Process} {r : Reaction} → neighbourOf X ≡ k → neighbourOf Y ≡ o
+matches : (d : Side) (n : ℕ) (g : Marks) (b : List Message) (X Y : Id) (k o : Neighbour) (l : List Send) {v : Process} {r : Reaction} → neighbourOf X ≡ k → neighbourOf Y ≡ o
     → v ≡ facing d n g b X Y l → r ≡ record { station = station d n g k o; sends = l } → Matches b v r
-matches d n g b X Y k o l e f h i = rw (h, i) (record { sent = sent d; site = become d n g b X Y l ∙ rw (e, f) })
+matches d n g b X Y k o l e f h i = rw (h, i) (record { sent = sent d; node = become d n g b X Y l ∙ rw (e, f) })
   where
     sent : (d : Side) → (facing d n g b X Y l) .sent ≡ l
     sent Left = refl
@@ -96,7 +94,7 @@ module _ (q : ℕ) where
   far-self Left = le-ltb q q (omega arith)
   far-self Right = le-ltb q q (omega arith)
 
-  module _ (n : ℕ) (g : Bool) (b : List Message) (X Y : Id) where
+  module _ (n : ℕ) (g : Marks) (b : List Message) (X Y : Id) where
     half-idle : (d : Side) (l : List Send) → near d n X ≡ false → far d X ≡ false → half d (facing d n g b X Y l) ≡ facing d n g b X Y l
     unfolding half near far _⨾_ if_then_ _below_ _and_ always left right p
     half-idle Left l e f = rw (f, e)
@@ -111,14 +109,6 @@ module _ (q : ℕ) where
     unfolding half near far _⨾_ if_then_ _below_ _and_ always left right p send_to_ intro
     half-far Left e f = rw (f, e)
     half-far Right e f = rw (e, f)
-
-and-false : (t : Bool) → (t && false) ≡ false
-and-false true = refl
-and-false false = refl
-
-and-true : (t : Bool) → (t && true) ≡ t
-and-true true = refl
-and-true false = refl
 
 ltb-other : (a c : ℕ) → a ≢ c → ltb c a ≡ not (ltb a c)
 ltb-other a c h = go (ltb a c) refl
@@ -163,21 +153,20 @@ module _ (n q : ℕ) where
   far-is Right r h = ltb-other q r h
 
   -- what the rules say, seen from the side on which q lies
-  rule : (d : Side) (g : Bool) (k o : Neighbour) → Beyond d n q → introduced (station d n g k o) q ≡ meet d (station d n g k o) q k
-  unfolding introduced sideOf neighbour
+  rule : (d : Side) (g : Marks) (k o : Neighbour) → Beyond d n q → introduced (station d n g k o) q ≡ meet d (station d n g k o) q k
+  unfolding introduced sideOf
   rule Left g k o h = rw (ne-eqb q n (λ e. omega arith), le-ltb n q (omega arith))
   rule Right g k o h = rw (ne-eqb q n (λ e. omega arith), lt-ltb n q h)
 
-  with-neighbour : (d : Side) (g : Bool) (k o : Neighbour) → withNeighbour d (Station q) (station d n g k o) ≡ station d n g (Station q) o
+  with-neighbour : (d : Side) (g : Marks) (k o : Neighbour) → withNeighbour d (Station q) (station d n g k o) ≡ station d n g (Station q) o
   unfolding withNeighbour
   with-neighbour Left g k o = refl
   with-neighbour Right g k o = refl
 
   -- the other side stays idle, so the figure does what one side does
-  works : (d : Side) (g : Bool) (b : List Message) (X Z : Id) (o : Neighbour) (l : List Send) → NotBeyond (opposite d) n q → ((r : ℕ) → o ≡ Station r → Beyond (opposite d) n r)
+  works : (d : Side) (g : Marks) (b : List Message) (X Z : Id) (o : Neighbour) (l : List Send) → NotBeyond (opposite d) n q → ((r : ℕ) → o ≡ Station r → Beyond (opposite d) n r)
       → half q d (facing d n g b X (idOn (opposite d) o) []) ≡ facing d n g b Z (idOn (opposite d) o) l
       → introduce (always (process q)) (facing d n g b X (idOn (opposite d) o) []) ≡ facing d n g b Z (idOn (opposite d) o) l
-  unfolding opposite
   works Left g b X Z o l h s e =
       halves q (facing Left n g b X (rightId o) []) ∙ ap (half q Right) e
       ∙ half-idle q n g b (rightId o) Z Right l (idle-near Right (rightId o) h) (idle-far Right o h s)
@@ -185,12 +174,11 @@ module _ (n q : ℕ) where
       halves q (facing Right n g b X (leftId o) []) ∙ ap (half q Right) (half-idle q n g b (leftId o) X Left [] (idle-near Left (leftId o) h) (idle-far Left o h s)) ∙ e
 
   beyond-not : (d : Side) → Beyond d n q → NotBeyond (opposite d) n q
-  unfolding opposite
   beyond-not Left h = omega arith
   beyond-not Right h = omega arith
 
 -- Station n handles an introduction of q: k is its neighbour on side d, o the other one.
-module _ (n : ℕ) (g : Bool) (b : List Message) (q : ℕ) (d : Side) (o : Neighbour) (s : (r : ℕ) → o ≡ Station r → Beyond (opposite d) n r) where
+module _ (n : ℕ) (g : Marks) (b : List Message) (q : ℕ) (d : Side) (o : Neighbour) (s : (r : ℕ) → o ≡ Station r → Beyond (opposite d) n r) where
   Handled : Neighbour → Type 0
   Handled k = Matches b (introduce (always (process q)) (facing d n g b (idOn d k) (idOn (opposite d) o) [])) (introduced (station d n g k o) q)
 
@@ -228,7 +216,7 @@ drop : Side → Command
 drop Left = send intro p to left ⨾ left:= always −∞
 drop Right = send intro p to right ⨾ right:= always +∞
 
-module _ (n : ℕ) (g : Bool) (b : List Message) where
+module _ (n : ℕ) (g : Marks) (b : List Message) where
   drops : (d : Side) (k o : Neighbour) → drop d (facing d n g b (idOn d k) (idOn (opposite d) o) []) ≡ facing d n g b (idOn d None) (idOn (opposite d) o) (sendTo k (introduction n))
   unfolding drop _⨾_ send_to_ left:=_ right:=_ always intro p left right mail leftId rightId sendTo
   drops Left None o = refl
@@ -249,42 +237,42 @@ module _ (n : ℕ) (g : Bool) (b : List Message) where
 
 -- A process that handles a message: its variables are those of the station, and nothing is sent yet.
 unfoldable pub start : declared.Station → List Message → Process
-start s b = facing Left (s .number) (s .leaving) b (leftId (s .left)) (rightId (s .right)) []
+start s b = facing Left (s .number) (s .marks) b (leftId (s .left)) (rightId (s .right)) []
 
 module _ (s : declared.Station) (b : List Message) where
   as-it-is : (v : Process) (r : Reaction) → v ≡ start s b → r ≡ record { station = s; sends = [] } → Matches b v r
   unfolding start
-  as-it-is v r e f = matches Left (s .number) (s .leaving) b (leftId (s .left)) (rightId (s .right)) (s .left) (s .right) [] (id-back Left (s .left)) (id-back Right (s .right)) e f
+  as-it-is v r e f = matches Left (s .number) (s .marks) b (leftId (s .left)) (rightId (s .right)) (s .left) (s .right) [] (id-back Left (s .left)) (id-back Right (s .right)) e f
 
   -- a request that is obeyed drops the neighbour; a leaving station does not obey remove-left
   pub request-matches : (d : Side) → Matches b (handle ((removal d) .content) (start s b)) (received s ((removal d) .content))
-  unfolding handle removal request received removed obeys neighbour start opposite drop _⨾_ if_then_ not-leaving
-  request-matches Left = go (s .leaving) refl (dropped (s .number) (s .leaving) b Left (s .left) (s .right))
+  unfolding handle removal request received removed start drop _⨾_ if_then_ not-leaving
+  request-matches Left = go (s .marks .leaving) refl (dropped (s .number) (s .marks) b Left (s .left) (s .right))
     where
-      figure : {t : Bool} → s .leaving ≡ t → request remleft (start s b) ≡ cond (not t) (drop Left (start s b)) (start s b)
+      figure : {t : Bool} → s .marks .leaving ≡ t → request remleft (start s b) ≡ cond (not t) (drop Left (start s b)) (start s b)
       figure e = ap (λ (t : Bool). cond (not t) (drop Left (start s b)) (start s b)) e
 
-      rules : {t : Bool} → s .leaving ≡ t → removed s Left ≡ cond (not t) (dropNeighbour Left s (s .left)) (unchanged s)
+      rules : {t : Bool} → s .marks .leaving ≡ t → removed s Left ≡ cond (not t) (dropNeighbour Left s (s .left)) (unchanged s)
       rules e = ap (λ (t : Bool). cond (not t) (dropNeighbour Left s (s .left)) (unchanged s)) e
 
-      go : (t : Bool) → s .leaving ≡ t → Matches b (drop Left (start s b)) (dropNeighbour Left s (s .left)) → Matches b (request remleft (start s b)) (removed s Left)
+      go : (t : Bool) → s .marks .leaving ≡ t → Matches b (drop Left (start s b)) (dropNeighbour Left s (s .left)) → Matches b (request remleft (start s b)) (removed s Left)
       go true e m = as-it-is (request remleft (start s b)) (removed s Left) (figure e) (rules e)
       go false e m = subst₂ (Matches b) (sym (figure e)) (sym (rules e)) m
-  request-matches Right = dropped (s .number) (s .leaving) b Right (s .right) (s .left)
+  request-matches Right = dropped (s .number) (s .marks) b Right (s .right) (s .left)
 
-  module _ (ok : Sided (site s b)) where
+  module _ (ok : Sided (node s b)) where
     -- q lies on side d, or is the station itself
     towards : (d : Side) (q : ℕ) → Beyond d (s .number) q → Matches b (introduce (always (process q)) (start s b)) (introduced s q)
-    unfolding start Handled neighbour opposite
-    towards Left q h = goes (s .number) (s .leaving) b q Left (s .right) (λ r e. ok Right r e) (s .left) h
-    towards Right q h = goes (s .number) (s .leaving) b q Right (s .left) (λ r e. ok Left r e) (s .right) h
+    unfolding start Handled
+    towards Left q h = goes (s .number) (s .marks) b q Left (s .right) (λ r e. ok Right r e) (s .left) h
+    towards Right q h = goes (s .number) (s .marks) b q Right (s .left) (λ r e. ok Left r e) (s .right) h
 
     itself : (q : ℕ) → q ≡ s .number → Matches b (introduce (always (process q)) (start s b)) (introduced s q)
-    unfolding start introduced neighbour opposite
+    unfolding start introduced
     itself q e =
         as-it-is (introduce (always (process q)) (start s b)) (introduced s q)
-        (works (s .number) q Left (s .leaving) b (leftId (s .left)) (leftId (s .left)) (s .right) [] (omega arith) (λ r z. ok Right r z)
-        (half-idle q (s .number) (s .leaving) b (leftId (s .left)) (rightId (s .right)) Left [] (idle-near (s .number) q Left (leftId (s .left)) (omega arith))
+        (works (s .number) q Left (s .marks) b (leftId (s .left)) (leftId (s .left)) (s .right) [] (omega arith) (λ r z. ok Right r z)
+        (half-idle q (s .number) (s .marks) b (leftId (s .left)) (rightId (s .right)) Left [] (idle-near (s .number) q Left (leftId (s .left)) (omega arith))
         (idle-far (s .number) q Left (s .left) (omega arith) (λ r z. ok Left r z))))
         (rw (eq-eqb q (s .number) e))
 

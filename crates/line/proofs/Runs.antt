@@ -1,19 +1,122 @@
--- A whole run: what is kept by each step is kept by the list, also one that stops at a refusal.
-use mathlib.Core.Path.{_≡_, refl, _∙_, ap}
-use mathlib.Core.List.{List, [], _∷_}
-use Prim.Native.Nat.{suc}
+-- Whole runs: one induction over the list of readings, and what follows from it. What each step that is done keeps, a run keeps, also one
+-- that stops at a refusal; machines that answer alike have runs that end alike; and a run goes on with the readings that are left.
+use mathlib.Core.Path.{_≡_, refl, sym, _∙_, ap}
+use mathlib.Core.List.{List, [], _∷_, map}
+use Prim.Native.Nat.{ℕ, suc, _+_, _-_, _≤_, _<_}
+use native.Mathlib.Omega.{arith}
 use lib.ListN.{take}
+use Rattle.lists.specs.Places.{range}
+use Rattle.lists.proofs.Elements.{range-one}
+use Rattle.line.specs.declared.Refusal.{Refusal}
 use Rattle.line.specs.declared.Reading.{Reading}
 use Rattle.line.specs.declared.Reading.the-variants.{Step, Refused}
+use Rattle.line.specs.declared.Ending.{Ending}
 use Rattle.line.specs.declared.Ending.the-variants.{Complete, Stopped}
 use Rattle.line.specs.Answer.{Answer, refused, done}
-use Rattle.line.specs.Site.{Line}
+use Rattle.line.specs.Node.{Line}
 use Rattle.line.specs.Run.{try, Run, run}
 use Rattle.line.specs.Claims.{RunKeepsAccepted, JoinedKept, RefusedChangesNothing, StepsDoneAlone}
 use Rattle.line.proofs.Answers.{refused-done}
 use Rattle.line.proofs.Chains.{forward, carry}
 use Rattle.line.proofs.Whole.{Sound, Result, step-result}
 
+-- A machine answers a reading in a state, whatever its states are: lines, or arrays that hold one. Its course over a list of readings is
+-- what `run` is of the machine `try`.
+abbrev pub Machine : Type 0 → Type 0
+Machine S = S → Reading → Answer S
+
+pub record Course (S : Type 0) : Type 0 where
+  pub ending : Ending
+  pub steps : ℕ
+  pub state : S
+
+module _ {S : Type 0} where
+  abbrev pub completed : S → Course S
+  completed s = record { ending = Complete; steps = 0; state = s }
+
+  abbrev pub stopped : S → Refusal → Course S
+  stopped s r = record { ending = Stopped r; steps = 0; state = s }
+
+  -- one step more was done before
+  abbrev pub after-one : Course S → Course S
+  after-one c = record { ending = c .ending; steps = suc (c .steps); state = c .state }
+
+module _ {S : Type 0} (f : Machine S) where
+  unfoldable pub course : S → List Reading → Course S
+  course s [] = completed s
+  course s (x ∷ l) = elim (f s x) [
+    | refused r ↦ stopped s r
+    | done t ↦ after-one (course t l)
+  ]
+
+  abbrev pub onward : S → List Reading → Answer S → Course S
+  onward s l (refused r) = stopped s r
+  onward s l (done t) = after-one (course t l)
+
+  pub course-next : (s : S) (x : Reading) (l : List Reading) → course s (x ∷ l) ≡ onward s l (f s x)
+  unfolding course
+  course-next s x l = go (f s x) refl
+    where
+      go : (a : Answer S) → f s x ≡ a → course s (x ∷ l) ≡ onward s l a
+      go (refused r) e = rw (e, course) refl
+      go (done t) e = rw (e, course) refl
+
+  -- The one induction: a statement of a state, a list of readings and their course.
+  pub course-induct : (Q : S → List Reading → Course S → Type 0)
+      → ((s : S) → Q s [] (completed s))
+      → ((s : S) (x : Reading) (l : List Reading) (r : Refusal) → f s x ≡ refused r → Q s (x ∷ l) (stopped s r))
+      → ((s t : S) (x : Reading) (l : List Reading) (c : Course S) → f s x ≡ done t → Q t l c → Q s (x ∷ l) (after-one c))
+      → (l : List Reading) (s : S) → Q s l (course s l)
+  unfolding course
+  course-induct Q none stop more [] s = none s
+  course-induct Q none stop more (x ∷ l) s = rw (course-next s x l) (go (f s x) refl (course-induct Q none stop more l))
+    where
+      go : (a : Answer S) → f s x ≡ a → ((t : S) → Q t l (course t l)) → Q s (x ∷ l) (onward s l a)
+      go (refused r) e h = stop s x l r e
+      go (done t) e h = more s t x l (course t l) e (h t)
+
+  -- what each step that is done keeps, the course keeps
+  pub course-keeps : (P : S → Type 0) → ((s t : S) (x : Reading) → P s → f s x ≡ done t → P t) → (l : List Reading) (s : S) → P s → P ((course s l) .state)
+  course-keeps P step = course-induct (λ s l c. P s → P (c .state)) (λ s p. p) (λ s x l r e p. p) (λ s t x l c e h p. h (step s t x p e))
+
+  -- what holds between the states before and after each step that is done holds between the first state and the last
+  pub course-relates : (P : S → Type 0) (R : S → S → Type 0) → ((s : S) → P s → R s s) → ((s t u : S) → R s t → R t u → R s u)
+      → ((s t : S) (x : Reading) → P s → f s x ≡ done t → P t × R s t)
+      → (l : List Reading) (s : S) → P s → P ((course s l) .state) × R s ((course s l) .state)
+  course-relates P R same then step l s p =
+      course-keeps (λ t. P t × R s t) (λ t u x w e. let v = step t u x (w .0) e in (v .0, then s t u (w .1) (v .1))) l s (p, same s p)
+
+-- Two machines: related states are answered alike, and related again where the step is done. So they end alike after as many steps, related.
+module _ {S T : Type 0} (R : S → T → Type 0) where
+  abbrev pub AnswersAlike : Answer S → Answer T → Type 0
+  AnswersAlike (refused r) (refused q) = r ≡ q
+  AnswersAlike (refused r) (done t) = ⊥
+  AnswersAlike (done s) (refused q) = ⊥
+  AnswersAlike (done s) (done t) = R s t
+
+  pub record EndAlike (c : Course S) (k : Course T) : Type 0 where
+    pub ending : c .ending ≡ k .ending
+    pub steps : c .steps ≡ k .steps
+    pub states : R (c .state) (k .state)
+
+  pub course-simulates : (f : Machine S) (g : Machine T) → ((s : S) (t : T) (x : Reading) → R s t → AnswersAlike (f s x) (g t x))
+      → (l : List Reading) (s : S) (t : T) → R s t → EndAlike (course f s l) (course g t l)
+  unfolding course
+  course-simulates f g alike l s =
+      course-induct f (λ s l c. (t : T) → R s t → EndAlike c (course g t l)) (λ s t h. record { ending = refl; steps = refl; states = h })
+      (λ s x l r e t h. rw (course-next g t x l) (stop s l r t h (g t x) (rw e at (alike s t x h))))
+      (λ s u x l c e i t h. rw (course-next g t x l) (more u l c i t (g t x) (rw e at (alike s t x h)))) l s
+    where
+      stop : (s : S) (l : List Reading) (r : Refusal) (t : T) → R s t → (a : Answer T) → AnswersAlike (refused r) a → EndAlike (stopped s r) (onward g t l a)
+      stop s l r t h (refused q) e = record { ending = ap Stopped e; steps = refl; states = h }
+      stop s l r t h (done u) e = absurd e
+
+      more : (s : S) (l : List Reading) (c : Course S) → ((t : T) → R s t → EndAlike c (course g t l))
+          → (t : T) (a : Answer T) → AnswersAlike (done s) a → EndAlike (after-one c) (onward g t l a)
+      more s l c i t (refused q) e = absurd e
+      more s l c i t (done u) e = let v = i u e in record { ending = v .ending; steps = ap suc (v .steps); states = v .states }
+
+-- Runs are the courses of the machine `try`.
 -- what a run gives, by its first step
 abbrev pub next : Line → List Reading → Answer Line → Run
 next line l (refused r) = record { ending = Stopped r; steps = 0; line = line }
@@ -27,6 +130,38 @@ run-next line x l = go (try line x) refl
     go (refused r) e = rw (e, run) refl
     go (done after) e = rw (e, run) refl
 
+abbrev toRun : Course Line → Run
+toRun c = record { ending = c .ending; steps = c .steps; line = c .state }
+
+run-course : (l : List Reading) (line : Line) → run line l ≡ toRun (course try line l)
+unfolding run
+run-course =
+    course-induct try (λ line l c. run line l ≡ toRun c) (λ line. refl) (λ line x l r e. run-next line x l ∙ ap (next line l) e)
+    (λ line after x l c e h. run-next line x l ∙ ap (next line l) e ∙ ap (λ (r : Run). record { ending = r .ending; steps = suc (r .steps); line = r .line }) h)
+
+-- what each step that is done keeps, a run keeps
+pub run-keeps : (P : Line → Type 0) → ((line after : Line) (x : Reading) → P line → try line x ≡ done after → P after)
+    → (l : List Reading) (line : Line) → P line → P ((run line l) .line)
+run-keeps P step l line p = rw (run-course l line) (course-keeps try P step l line p)
+
+pub run-relates : (P : Line → Type 0) (R : Line → Line → Type 0) → ((line : Line) → P line → R line line) → ((a b c : Line) → R a b → R b c → R a c)
+    → ((line after : Line) (x : Reading) → P line → try line x ≡ done after → P after × R line after)
+    → (l : List Reading) (line : Line) → P line → P ((run line l) .line) × R line ((run line l) .line)
+run-relates P R same then step l line p = rw (run-course l line) (course-relates try P R same then step l line p)
+
+-- related lines whose steps are answered alike have runs that end alike after as many steps, and leave related lines
+pub record RunsAlike (R : Line → Line → Type 0) (r q : Run) : Type 0 where
+  pub ending : r .ending ≡ q .ending
+  pub steps : r .steps ≡ q .steps
+  pub lines : R (r .line) (q .line)
+
+pub run-simulates : (R : Line → Line → Type 0) → ((a b : Line) (x : Reading) → R a b → AnswersAlike R (try a x) (try b x))
+    → (l : List Reading) (a b : Line) → R a b → RunsAlike R (run a l) (run b l)
+run-simulates R alike l a b h =
+    let v = course-simulates R try try alike l a b h in
+    rw (run-course l a, run-course l b) (record { ending = v .ending; steps = v .steps; lines = v .states })
+
+-- what a step or a run does to an accepted line in written order
 unchanged : {line : Line} → Sound line → Result line line
 unchanged ok = record { sound = ok; remain = λ x m. m; backed = λ x y h. forward h; stays = λ a b m n j. j }
 
@@ -44,13 +179,8 @@ try-result line (Step x) ok e = step-result line x ok e
 try-result line (Refused r) ok e = refused-done e
 
 pub run-result : (l : List Reading) (line : Line) → Sound line → Result line ((run line l) .line)
-unfolding run
-run-result [] line ok = unchanged ok
-run-result (x ∷ l) line ok = rw (run-next line x l) (go (try line x) refl (λ after. run-result l after))
-  where
-    go : (a : Answer Line) → try line x ≡ a → ((after : Line) → Sound after → Result after ((run after l) .line)) → Result line ((next line l a) .line)
-    go (refused r) e f = unchanged ok
-    go (done after) e f = let r = try-result line x ok e in then r (f after (r .sound))
+run-result l line ok =
+    run-relates Sound Result (λ a. unchanged) (λ a b c. then) (λ a b x h e. let r = try-result a x h e in (r .sound, r)) l line ok .1
 
 pub run-keeps-accepted : RunKeepsAccepted
 run-keeps-accepted line l a w = let r = run-result l line (record { accepted = a; written = w }) .sound in (r .accepted, r .written)
@@ -64,18 +194,67 @@ pub refused-changes-nothing : RefusedChangesNothing
 refused-changes-nothing line x l r e = run-next line x l ∙ ap (next line l) e
 
 -- the first steps of the list, as many as were done, are all done and leave the same line
-alone : (l : List Reading) (line : Line) → run line (take ((run line l) .steps) l) ≡ record { ending = Complete; steps = (run line l) .steps; line = (run line l) .line }
-unfolding run
-alone [] line = refl
-alone (x ∷ l) line = rw (run-next line x l) (go (try line x) refl (alone l))
-  where
-    go : (a : Answer Line) → try line x ≡ a
-        → ((after : Line) → run after (take ((run after l) .steps) l) ≡ record { ending = Complete; steps = (run after l) .steps; line = (run after l) .line })
-        → run line (take ((next line l a) .steps) (x ∷ l)) ≡ record { ending = Complete; steps = (next line l a) .steps; line = (next line l a) .line }
-    go (refused r) e f = refl
-    go (done after) e f =
-        run-next line x (take ((run after l) .steps) l) ∙ ap (next line (take ((run after l) .steps) l)) e
-        ∙ ap (λ (r : Run). record { ending = r .ending; steps = suc (r .steps); line = r .line }) (f after)
-
 pub steps-done-alone : StepsDoneAlone
-steps-done-alone line l = alone l line
+unfolding run
+steps-done-alone line l = rw (run-course l line) (course-induct try Alone (λ line. refl) (λ line x l r e. refl) more l line)
+  where
+    Alone : Line → List Reading → Course Line → Type 0
+    Alone line l c = run line (take (c .steps) l) ≡ record { ending = Complete; steps = c .steps; line = c .state }
+
+    more : (line after : Line) (x : Reading) (l : List Reading) (c : Course Line) → try line x ≡ done after → Alone after l c → Alone line (x ∷ l) (after-one c)
+    more line after x l c e h =
+        run-next line x (take (c .steps) l) ∙ ap (next line (take (c .steps) l)) e
+        ∙ ap (λ (r : Run). record { ending = r .ending; steps = suc (r .steps); line = r .line }) h
+
+-- A run under way: k steps were done, r is the whole run, and l are the readings that are left.
+unfoldable pub ahead : ℕ → Run → Run
+ahead k r = record { ending = r .ending; steps = k + r .steps; line = r .line }
+
+abbrev pub ended : Ending → ℕ → Line → Run
+ended e k line = record { ending = e; steps = k; line = line }
+
+pub run-starts : (r : Run) → r ≡ ahead 0 r
+unfolding ahead
+run-starts r = ap (λ (k : ℕ). record { ending = r .ending; steps = k; line = r .line }) (let z : r .steps ≡ 0 + r .steps = omega arith in z)
+
+module _ {r : Run} (k : ℕ) (line : Line) {l : List Reading} (same : r ≡ ahead k (run line l)) where
+  -- none is left
+  pub run-ends : l ≡ [] → ended Complete k line ≡ r
+  unfolding ahead run
+  run-ends e = sym (same ∙ rw e (ap (λ (j : ℕ). ended Complete j line) (let z : k + 0 ≡ k = omega arith in z)))
+
+  module _ {x : Reading} {rest : List Reading} (first : l ≡ x ∷ rest) where
+    tries : (a : Answer Line) → try line x ≡ a → run line l ≡ next line rest a
+    tries a e = ap (run line) first ∙ run-next line x rest ∙ ap (next line rest) e
+
+    -- the next step is refused
+    pub run-stops : (f : Refusal) → try line x ≡ refused f → ended (Stopped f) k line ≡ r
+    unfolding ahead
+    run-stops f e = sym (same ∙ ap (ahead k) (tries (refused f) e) ∙ ap (λ (j : ℕ). ended (Stopped f) j line) (let z : k + 0 ≡ k = omega arith in z))
+
+    -- the next step is done
+    pub run-goes : (after : Line) → try line x ≡ done after → r ≡ ahead (k + 1) (run after rest)
+    unfolding ahead
+    run-goes after e =
+        let t = run after rest in
+        same ∙ ap (ahead k) (tries (done after) e)
+        ∙ ap (λ (j : ℕ). record { ending = t .ending; steps = j; line = t .line }) (let z : k + suc (t .steps) ≡ k + 1 + t .steps = omega arith in z)
+
+-- Readings by number, `total` of them: those from k on.
+module _ (read : ℕ → Reading) (total : ℕ) where
+  abbrev pub readingsFrom : ℕ → List Reading
+  readingsFrom k = map read (range k (total - k))
+
+  pub readings-start : (line : Line) → run line (map read (range 0 total)) ≡ ahead 0 (run line (readingsFrom 0))
+  readings-start line = let e : total - 0 ≡ total = omega arith in rw e (run-starts (run line (map read (range 0 total))))
+
+  module _ {r : Run} (k : ℕ) (line : Line) (same : r ≡ ahead k (run line (readingsFrom k))) where
+    pub readings-end : total ≤ k → ended Complete k line ≡ r
+    unfolding range
+    readings-end h = let e : total - k ≡ 0 = omega arith in run-ends k line same (rw e)
+
+    pub readings-stop : k < total → (f : Refusal) → try line (read k) ≡ refused f → ended (Stopped f) k line ≡ r
+    readings-stop h = run-stops k line same (ap (map read) (range-one k total h))
+
+    pub readings-go : k < total → (after : Line) → try line (read k) ≡ done after → r ≡ ahead (k + 1) (run after (readingsFrom (k + 1)))
+    readings-go h = run-goes k line same (ap (map read) (range-one k total h))

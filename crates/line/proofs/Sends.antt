@@ -14,14 +14,13 @@ use Rattle.line.specs.declared.Content.{Content}
 use Rattle.line.specs.declared.Content.the-variants.{Introduction, RemoveLeft, RemoveRight}
 use Rattle.line.specs.declared.Message.{Message}
 use Rattle.line.specs.declared.Refusal.the-variants.{NotInBag, Staying, Held}
-use Rattle.line.specs.declared.Station as declared
 use Rattle.line.specs.declared.Side.{Side}
 use Rattle.line.specs.declared.Side.the-variants.{Left, Right}
 use Rattle.line.specs.declared.Action.{Action}
 use Rattle.line.specs.declared.Action.the-variants.{Timeout, Deliver, Exit}
 use Rattle.line.specs.Answer.{done}
 use Rattle.line.specs.Message.{introduction, holds}
-use Rattle.line.specs.Site.{Site, number, leaving, beyond, sideOf, neighbour, withNeighbour}
+use Rattle.line.specs.Node.{Node, number, leaving, beyond, sideOf, neighbour, withNeighbour}
 use Rattle.line.specs.Accepted.{Sided}
 use Rattle.line.specs.Act.{Send, send, sendTo, notice, timeout, unchanged, meet, introduced, dropNeighbour, obeys, removed, received, introduceBoth, Effect, act}
 use Rattle.line.specs.Claims.{Apart, SendsApart}
@@ -48,8 +47,8 @@ unfolding sendTo
 sent-to None c h = absurd (List·Memᴰ·not-nil h)
 sent-to (Station r) c h = ap Station (sym (ap (λ (z : Send). z .to) (List·Memᴰ·eq-of-singleton h)))
 
-clear-two : (s : Site) → Sided s → {a b : Neighbour} → s .station .left ≡ a → s .station .right ≡ b → (c e : Message) → Clear (number s) (sendTo a c ++ sendTo b e)
-unfolding neighbour sendTo
+clear-two : (s : Node) → Sided s → {a b : Neighbour} → s .station .left ≡ a → s .station .right ≡ b → (c e : Message) → Clear (number s) (sendTo a c ++ sendTo b e)
+unfolding sendTo
 clear-two s ok {a} {b} p q c e = record {
   away = λ m h. ⊎-elim (λ k. beyond-other Left (number s) (m .to) (ok Left (m .to) (p ∙ sent-to a c k)))
       (λ k. beyond-other Right (number s) (m .to) (ok Right (m .to) (q ∙ sent-to b e k))) (List·Memᴰ·append-cases (sendTo a c) h);
@@ -63,7 +62,7 @@ clear-two s ok {a} {b} p q c e = record {
     apart (Station l) (Station r) p q =
         (λ k m z. omega (arith, ok Left l p, ok Right r q, z, ap (λ (y : Send). y .to) (List·Memᴰ·eq-of-singleton m)), (λ k m. absurd (List·Memᴰ·not-nil m), tt))
 
-module _ (s : Site) (ok : Sided s) where
+module _ (s : Node) (ok : Sided s) where
   clear-timeout : Clear (number s) (timeout (s .station))
   unfolding timeout
   clear-timeout = clear-two s ok refl refl (notice (s .station) Left) (notice (s .station) Right)
@@ -114,13 +113,13 @@ module _ (s : Site) (ok : Sided s) where
   clear-received RemoveLeft = clear-removed Left
   clear-received RemoveRight = clear-removed Right
 
-  pub clear-act : (alone : Bool) (a : Action) {e : Effect} → act alone s a ≡ done e → Clear (number s) (e .sends)
+  pub clear-act : (nidecHolds : Bool) (a : Action) {e : Effect} → act nidecHolds s a ≡ done e → Clear (number s) (e .sends)
   unfolding act
-  clear-act alone Timeout h = subst (λ (e : Effect). Clear (number s) (e .sends)) (done-inj h) clear-timeout
-  clear-act alone (Deliver m) h = subst (λ (e : Effect). Clear (number s) (e .sends)) (done-inj (required (holds m (s .bag)) NotInBag h .1)) (clear-received (m .content))
-  clear-act alone Exit h =
+  clear-act nidecHolds Timeout h = subst (λ (e : Effect). Clear (number s) (e .sends)) (done-inj h) clear-timeout
+  clear-act nidecHolds (Deliver m) h = subst (λ (e : Effect). Clear (number s) (e .sends)) (done-inj (required (holds m (s .bag)) NotInBag h .1)) (clear-received (m .content))
+  clear-act nidecHolds Exit h =
       let v = required (leaving s) Staying h .1 in
-      subst (λ (e : Effect). Clear (number s) (e .sends)) (done-inj (required alone Held v .1)) (clear-exit (s .station .left) (s .station .right) refl refl)
+      subst (λ (e : Effect). Clear (number s) (e .sends)) (done-inj (required nidecHolds Held v .1)) (clear-exit (s .station .left) (s .station .right) refl refl)
 
 pub sends-apart : SendsApart
-sends-apart alone s a e ok h = let c = clear-act s ok alone a h in (c .away, c .once)
+sends-apart nidecHolds s a e ok h = let c = clear-act s ok nidecHolds a h in (c .away, c .once)

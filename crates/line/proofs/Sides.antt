@@ -13,7 +13,7 @@ use Rattle.line.specs.declared.Message.{Message}
 use Rattle.line.specs.declared.Station as declared
 use Rattle.line.specs.declared.Side.{Side}
 use Rattle.line.specs.declared.Side.the-variants.{Left, Right}
-use Rattle.line.specs.Site.{Site, Beyond, beyond, sideOf, neighbour, withNeighbour}
+use Rattle.line.specs.Node.{Node, Beyond, beyond, sideOf, neighbour, withNeighbour}
 use Rattle.line.specs.Links.{Linked, by-neighbour, by-introduction}
 use Rattle.line.specs.Accepted.{Sided}
 
@@ -22,6 +22,15 @@ station-inj e = cc
 
 pub none-station : {a : ℕ} {C : Type 0} → None ≡ Station a → C
 none-station e = absurd (let z : _≡_ {A = ℕ} 0 1 = cc in omega arith)
+
+-- by the side that was told
+pub beyond-left : (d : Side) (p q : ℕ) → d ≡ Left → ltb q p ≡ beyond d p q
+unfolding beyond
+beyond-left d p q e = rw e
+
+pub beyond-right : (d : Side) (p q : ℕ) → d ≡ Right → ltb p q ≡ beyond d p q
+unfolding beyond
+beyond-right d p q e = rw e
 
 pub beyond-true : (d : Side) (p q : ℕ) → beyond d p q ≡ true → Beyond d p q
 unfolding beyond
@@ -51,16 +60,20 @@ module _ (d : Side) (k : Neighbour) (p : declared.Station) where
   unfolding withNeighbour
   changed-number = elim d as (λ (e : Side). (withNeighbour e k p) .number ≡ p .number) [ Left ↦ refl | Right ↦ refl ]
 
+  pub changed-marks : (withNeighbour d k p) .marks ≡ p .marks
+  unfolding withNeighbour
+  changed-marks = elim d as (λ (e : Side). (withNeighbour e k p) .marks ≡ p .marks) [ Left ↦ refl | Right ↦ refl ]
+
   pub changed-neighbour : neighbour d (withNeighbour d k p) ≡ k
-  unfolding withNeighbour neighbour
+  unfolding withNeighbour
   changed-neighbour = elim d as (λ (e : Side). neighbour e (withNeighbour e k p) ≡ k) [ Left ↦ refl | Right ↦ refl ]
 
-abbrev pub site : declared.Station → List Message → Site
-site p b = record { station = p; bag = b }
+abbrev pub node : declared.Station → List Message → Node
+node p b = record { station = p; bag = b }
 
 -- the links after: the new neighbour, and old ones
-pub changed-links : (d : Side) (k : Neighbour) (p : declared.Station) (b : List Message) {y : ℕ} → Linked (site (withNeighbour d k p) b) y → (k ≡ Station y) ⊎ Linked (site p b) y
-unfolding withNeighbour neighbour
+pub changed-links : (d : Side) (k : Neighbour) (p : declared.Station) (b : List Message) {y : ℕ} → Linked (node (withNeighbour d k p) b) y → (k ≡ Station y) ⊎ Linked (node p b) y
+unfolding withNeighbour
 changed-links Left k p b (by-neighbour Left e) = inl e
 changed-links Left k p b (by-neighbour Right e) = inr (by-neighbour Right e)
 changed-links Left k p b (by-introduction m) = inr (by-introduction m)
@@ -69,8 +82,8 @@ changed-links Right k p b (by-neighbour Left e) = inr (by-neighbour Left e)
 changed-links Right k p b (by-introduction m) = inr (by-introduction m)
 
 -- the links before: the old neighbour, and those that stay
-pub links-changed : (d : Side) (k : Neighbour) (p : declared.Station) (b : List Message) {y : ℕ} → Linked (site p b) y → (neighbour d p ≡ Station y) ⊎ Linked (site (withNeighbour d k p) b) y
-unfolding withNeighbour neighbour
+pub links-changed : (d : Side) (k : Neighbour) (p : declared.Station) (b : List Message) {y : ℕ} → Linked (node p b) y → (neighbour d p ≡ Station y) ⊎ Linked (node (withNeighbour d k p) b) y
+unfolding withNeighbour
 links-changed Left k p b (by-neighbour Left e) = inl e
 links-changed Left k p b (by-neighbour Right e) = inr (by-neighbour Right e)
 links-changed Left k p b (by-introduction m) = inr (by-introduction m)
@@ -78,9 +91,9 @@ links-changed Right k p b (by-neighbour Right e) = inl e
 links-changed Right k p b (by-neighbour Left e) = inr (by-neighbour Left e)
 links-changed Right k p b (by-introduction m) = inr (by-introduction m)
 
-pub changed-sided : (d : Side) (k : Neighbour) (p : declared.Station) (b : List Message) → Sided (site p b) → ((q : ℕ) → k ≡ Station q → Beyond d (p .number) q)
-    → Sided (site (withNeighbour d k p) b)
-unfolding withNeighbour neighbour
+pub changed-sided : (d : Side) (k : Neighbour) (p : declared.Station) (b : List Message) → Sided (node p b) → ((q : ℕ) → k ≡ Station q → Beyond d (p .number) q)
+    → Sided (node (withNeighbour d k p) b)
+unfolding withNeighbour
 changed-sided Left k p b h f Left q e = f q e
 changed-sided Left k p b h f Right q e = h Right q e
 changed-sided Right k p b h f Right q e = f q e

@@ -1,15 +1,17 @@
 -- The situations and the further examples hold: each is computed.
-use mathlib.Core.Path.{_≡_, refl, sym, subst}
-use mathlib.Core.List.{List, [], _∷_, List·Memᴰ, List·Memᴰ·head, List·Memᴰ·tail, List·Memᴰ·not-nil}
-use Rattle.line.specs.Lists.{all, any, insert, removeFirst}
+use mathlib.Core.Path.{refl, sym, subst}
+use mathlib.Core.List.{List, [], _∷_, List·Memᴰ, List·Memᴰ·head, List·Memᴰ·tail}
+use Rattle.lists.specs.Lists.{all, any, insert, removeFirst}
 use Rattle.line.specs.Answer.{_>>=_, require}
 use Rattle.line.specs.Message.{removal, same, precedes}
-use Rattle.line.specs.Site.{opposite, beyond, sideOf, neighbour, withNeighbour}
+use Rattle.line.specs.Marks.{marksHold}
+use Rattle.line.specs.Node.{beyond, sideOf, withNeighbour}
 use Rattle.line.specs.Nidec.{isNeighbour, names, isEmpty, nidec}
-use Rattle.line.specs.Act.{sendTo, notice, timeout, meet, introduced, dropNeighbour, obeys, removed, received, introduceBoth, act}
-use Rattle.line.specs.Step.{find, change, without, replace, receive, sendAll, hasRoom, commit, step}
-use Rattle.line.specs.Accepted.{inRange, hasSmallBag, liesBeyond, hasSides, areDistinct, isPresent, knowsNeighbour, knowsContent, namesPresent, accepted}
-use Rattle.line.specs.Situations.{Situation, Holds, situations}
+use Rattle.line.specs.Act.{sendTo, notice, timeout, meet, introduced, dropNeighbour, removed, received, introduceBoth, act}
+use Rattle.line.specs.Step.{find, change, without, replace, withMessage, sendAll, hasRoom, commit, step}
+use Rattle.line.specs.Accepted.{inRange, hasSmallBag, liesBeyond, hasSides, isPresent, knowsNeighbour, knowsContent, namesPresent, accepted}
+use Rattle.lists.specs.Numbers.{areDistinct}
+use Rattle.line.specs.Situations.{Holds, situations}
 use Rattle.line.specs.Examples.{examples}
 use Rattle.line.specs.Claims.{SituationsHold, ExamplesHold}
 
@@ -23,9 +25,9 @@ each P h x (List·Memᴰ·head e) = subst P (sym e) (h .0)
 each P h x (List·Memᴰ·tail m) = each P (h .1) x m
 
 pub situations-hold : SituationsHold
-unfolding accepted inRange hasSmallBag liesBeyond hasSides areDistinct isPresent knowsNeighbour knowsContent namesPresent all any insert removeFirst require _>>=_ removal same precedes opposite beyond sideOf neighbour withNeighbour isNeighbour names isEmpty nidec sendTo notice timeout meet introduced dropNeighbour obeys removed received introduceBoth act find change without replace receive sendAll hasRoom commit step situations
+unfolding accepted marksHold inRange hasSmallBag liesBeyond hasSides areDistinct isPresent knowsNeighbour knowsContent namesPresent all any insert removeFirst require _>>=_ removal same precedes beyond sideOf withNeighbour isNeighbour names isEmpty nidec sendTo notice timeout meet introduced dropNeighbour removed received introduceBoth act find change without replace withMessage sendAll hasRoom commit step situations
 situations-hold = each Holds ((refl, refl), ((refl, refl), ((refl, refl), ((refl, refl), ((refl, refl), ((refl, refl), ((refl, refl), ((refl, refl), ((refl, refl), ((refl, refl), ((refl, refl), tt)))))))))))
 
 pub examples-hold : ExamplesHold
-unfolding accepted inRange hasSmallBag liesBeyond hasSides areDistinct isPresent knowsNeighbour knowsContent namesPresent all any insert removeFirst require _>>=_ removal same precedes opposite beyond sideOf neighbour withNeighbour isNeighbour names isEmpty nidec sendTo notice timeout meet introduced dropNeighbour obeys removed received introduceBoth act find change without replace receive sendAll hasRoom commit step examples
+unfolding accepted marksHold inRange hasSmallBag liesBeyond hasSides areDistinct isPresent knowsNeighbour knowsContent namesPresent all any insert removeFirst require _>>=_ removal same precedes beyond sideOf withNeighbour isNeighbour names isEmpty nidec sendTo notice timeout meet introduced dropNeighbour removed received introduceBoth act find change without replace withMessage sendAll hasRoom commit step examples
 examples-hold = each Holds ((refl, refl), ((refl, refl), ((refl, refl), ((refl, refl), ((refl, refl), ((refl, refl), ((refl, refl), ((refl, refl), ((refl, refl), ((refl, refl), ((refl, refl), ((refl, refl), ((refl, refl), ((refl, refl), ((refl, refl), ((refl, refl), ((refl, refl), ((refl, refl), ((refl, refl), ((refl, refl), ((refl, refl), ((refl, refl), ((refl, refl), tt)))))))))))))))))))))))

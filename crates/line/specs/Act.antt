@@ -1,7 +1,7 @@
 -- What a step does at its own station (document 01, "What a step does at station p").
 -- Nothing here looks beyond the station, its bag and whether NIDEC holds for it.
 use Prim.Native.Nat.{ℕ}
-use mathlib.Core.Bool.{Bool, true, false, cond, not}
+use mathlib.Core.Bool.{Bool, true, cond, not}
 use mathlib.Core.Option.{Option, none, some}
 use mathlib.Core.List.{List, [], _∷_, _++_}
 use lib.Dec.{eqb}
@@ -18,7 +18,7 @@ use Rattle.line.specs.declared.Action.the-variants.{Timeout, Deliver, Ex
 use Rattle.line.specs.declared.Refusal.the-variants.{NotInBag, Staying, Held}
 use Rattle.line.specs.Answer.{Answer, done, require}
 use Rattle.line.specs.Message.{introduction, removal, holds, remove}
-use Rattle.line.specs.Site.{Site, leaving, opposite, beyond, sideOf, neighbour, withNeighbour}
+use Rattle.line.specs.Node.{Node, leaving, opposite, beyond, sideOf, neighbour, withNeighbour}
 
 -- a message on its way to a station
 pub record Send : Type 0 where
@@ -36,7 +36,7 @@ sendTo (Station n) m = send n m
 -- "Timeout, staying: an introduction of p goes to left and to right, each where there is one."
 -- "Timeout, leaving: a remove-right goes to left and a remove-left to right, each where there is one."
 unfoldable pub notice : declared.Station → Side → Message
-notice p d = cond (p .leaving) (removal (opposite d)) (introduction (p .number))
+notice p d = cond (p .marks .leaving) (removal (opposite d)) (introduction (p .number))
 
 unfoldable pub timeout : declared.Station → List Send
 timeout p = sendTo (p .left) (notice p Left) ++ sendTo (p .right) (notice p Right)
@@ -68,8 +68,8 @@ dropNeighbour d p (Station r) = record { station = withNeighbour d None p; sends
 
 -- "Deliver remove-left: ... If p is staying and has a left ... A leaving p does no more."
 -- "Deliver remove-right: ... If p has a right, staying or leaving ..."
-unfoldable pub obeys : Side → declared.Station → Bool
-obeys Left p = not (p .leaving)
+abbrev pub obeys : Side → declared.Station → Bool
+obeys Left p = not (p .marks .leaving)
 obeys Right p = true
 
 unfoldable pub removed : declared.Station → Side → Reaction
@@ -86,18 +86,18 @@ introduceBoth None n = []
 introduceBoth (Station l) None = []
 introduceBoth (Station l) (Station r) = send l (introduction r) ++ send r (introduction l)
 
--- the site after the step, none where its block goes, and what it sends
+-- the node after the step, none where its block goes, and what it sends
 pub record Effect : Type 0 where
-  pub after : Option Site
+  pub after : Option Node
   pub sends : List Send
 
 abbrev pub kept : List Message → Reaction → Effect
 kept b r = record { after = some (record { station = r .station; bag = b }); sends = r .sends }
 
--- alone says whether NIDEC holds for s
-unfoldable pub act : Bool → Site → Action → Answer Effect
-act alone s Timeout = done (record { after = some s; sends = timeout (s .station) })
-act alone s (Deliver m) = require (holds m (s .bag)) NotInBag (done (kept (remove m (s .bag)) (received (s .station) (m .content))))
-act alone s Exit =
+-- nidecHolds says whether NIDEC holds for s
+unfoldable pub act : Bool → Node → Action → Answer Effect
+act nidecHolds s Timeout = done (record { after = some s; sends = timeout (s .station) })
+act nidecHolds s (Deliver m) = require (holds m (s .bag)) NotInBag (done (kept (remove m (s .bag)) (received (s .station) (m .content))))
+act nidecHolds s Exit =
     require (leaving s) Staying
-    (require alone Held (done (record { after = none; sends = introduceBoth (s .station .left) (s .station .right) })))
+    (require nidecHolds Held (done (record { after = none; sends = introduceBoth (s .station .left) (s .station .right) })))

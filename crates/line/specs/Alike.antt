@@ -5,16 +5,16 @@ use mathlib.Core.Logic.{_↔_}
 use mathlib.Core.List.{List·Memᴰ as Member}
 use Rattle.line.specs.declared.Message.{Message}
 use Rattle.line.specs.Message.{copies}
-use Rattle.line.specs.Site.{Site, Line, number, Present}
+use Rattle.line.specs.Node.{Node, Line, number, Present}
 
 -- "Tables are alike when the same station numbers have blocks, each with the same left, right and leaving mark and as many
--- copies of each message."
-pub record AlikeSites (s t : Site) : Type 0 where
+-- copies of each message." The leaving mark is all that `marks` holds.
+pub record AlikeNodes (s t : Node) : Type 0 where
   pub left : s .station .left ≡ t .station .left
   pub right : s .station .right ≡ t .station .right
-  pub leaving : s .station .leaving ≡ t .station .leaving
+  pub marks : s .station .marks ≡ t .station .marks
   pub bag : (m : Message) → copies m (s .bag) ≡ copies m (t .bag)
 
 pub record Alike (a b : Line) : Type 0 where
   pub stations : (n : ℕ) → Present a n ↔ Present b n
-  pub sites : (s t : Site) → Member s a → Member t b → number s ≡ number t → AlikeSites s t
+  pub nodes : (s t : Node) → Member s a → Member t b → number s ≡ number t → AlikeNodes s t

@@ -14,7 +14,7 @@ use Rattle.line.specs.declared.Step as declared
 use Rattle.line.specs.declared.Action.{Action}
 use Rattle.line.specs.Answer.{refused, done}
 use Rattle.line.specs.Message.{capacity}
-use Rattle.line.specs.Site.{Site, Line, number, Present, inWrittenOrder, Written}
+use Rattle.line.specs.Node.{Node, Line, number, Present, inWrittenOrder, Written}
 use Rattle.line.specs.Links.{Joined}
 use Rattle.line.specs.Nidec.{Nidec, nidec}
 use Rattle.line.specs.Act.{Send, Effect, act}
@@ -29,7 +29,7 @@ use Rattle.line.specs.Examples.{examples}
 
 -- The tests say what the statements say.
 abbrev pub NidecTested : Type 0
-NidecTested = (line : Line) (p : Site) → (nidec line p ≡ true) ↔ Nidec line p
+NidecTested = (line : Line) (p : Node) → (nidec line p ≡ true) ↔ Nidec line p
 
 abbrev pub AcceptedTested : Type 0
 AcceptedTested = (line : Line) → (accepted line ≡ true) ↔ Accepted line
@@ -69,7 +69,7 @@ WrittenOrderStays = (line : Line) → Written line → inWrittenOrder line ≡ l
 -- 4. A step is done exactly when Figure 1 allows it and no bag would hold more than 32, and then leads where Figure 1 leads.
 -- It is refused with 15 exactly when Figure 1 allows it and some bag would hold more than 32.
 abbrev pub WithinCapacity : Line → Type 0
-WithinCapacity line = (s : Site) → Member s line → length (s .bag) ≤ capacity
+WithinCapacity line = (s : Node) → Member s line → length (s .bag) ≤ capacity
 
 abbrev pub ReportAgrees : Type 0
 ReportAgrees =
@@ -91,7 +91,7 @@ Apart (m ∷ l) = ((k : Send) → Member k l → m .to ≢ k .to) × Apart l
 
 abbrev pub SendsApart : Type 0
 SendsApart =
-    (alone : Bool) (s : Site) (a : Action) (e : Effect) → Sided s → act alone s a ≡ done e
+    (nidecHolds : Bool) (s : Node) (a : Action) (e : Effect) → Sided s → act nidecHolds s a ≡ done e
     → ((m : Send) → Member m (e .sends) → m .to ≢ number s) × Apart (e .sends)
 
 -- 7. A refused step changes nothing: the run stops with the line as it was. Whatever a run leaves, the steps done alone leave.

@@ -7,7 +7,7 @@ use lib.Dec.{eqb}
 use Rattle.line.specs.declared.Neighbour.{Neighbour}
 use Rattle.line.specs.declared.Neighbour.the-variants.{None, Station}
 use Rattle.line.specs.declared.Side.{Side}
-use Rattle.line.specs.Site.{Site, Line, number, Present, Beyond, neighbour}
+use Rattle.line.specs.Node.{Node, Line, number, Present, Beyond, neighbour}
 
 -- q is the next station present on side d of p: none lies between them
 pub record Next (line : Line) (d : Side) (p q : ℕ) : Type 0 where
@@ -22,9 +22,9 @@ IsNext line d p (Station q) = Next line d p q
 -- "In line: each station's left is the next smaller station present, none for the smallest, and likewise its right.
 -- The empty table is in line."
 abbrev pub InLine : Line → Type 0
-InLine line = (s : Site) → Member s line → (d : Side) → IsNext line d (number s) (neighbour d (s .station))
+InLine line = (s : Node) → Member s line → (d : Side) → IsNext line d (number s) (neighbour d (s .station))
 
--- The same as a test of a line in written order: the station before is the left, the station after is the right.
+-- The tests, tied to the statements by `InLineTested` of Claims.antt.
 unfoldable pub isSame : Neighbour → Neighbour → Bool
 isSame None None = true
 isSame None (Station n) = false
@@ -35,6 +35,7 @@ unfoldable pub first : Line → Neighbour
 first [] = None
 first (s ∷ line) = Station (number s)
 
+-- of a line in written order: the station before is the left, the station after is the right
 unfoldable pub inLineAfter : Neighbour → Line → Bool
 inLineAfter before [] = true
 inLineAfter before (s ∷ line) =

@@ -1,8 +1,8 @@
 -- What a reader must believe, in reading order. Document 01 is the scope, source 000 the Finite Leave report.
-pub mod Lists
 pub mod Answer
 pub mod Message
-pub mod Site
+pub mod Marks
+pub mod Node
 pub mod Links
 pub mod Nidec
 pub mod Act

@@ -8,7 +8,7 @@ use Rattle.line.specs.declared.Content.the-variants.{Introduction, Remov
 use Rattle.line.specs.declared.Message.{Message}
 use Rattle.line.specs.declared.Side.{Side}
 use Rattle.line.specs.declared.Side.the-variants.{Left, Right}
-use Rattle.line.specs.Lists.{any, count, insert, removeFirst}
+use Rattle.lists.specs.Lists.{any, count, insert, removeFirst}
 
 -- "a kind (2 bytes: 1 introduction, 2 remove-left, 3 remove-right)"
 abbrev pub kind : Content → ℕ

@@ -9,28 +9,28 @@ use lib.Dec.{eqb}
 use Rattle.line.specs.declared.Neighbour.{Neighbour}
 use Rattle.line.specs.declared.Neighbour.the-variants.{None, Station}
 use Rattle.line.specs.declared.Message.{Message}
-use Rattle.line.specs.Lists.{all}
+use Rattle.lists.specs.Lists.{all}
 use Rattle.line.specs.Message.{introduction, holds}
-use Rattle.line.specs.Site.{Site, Line, number}
+use Rattle.line.specs.Node.{Node, Line, number}
 use Rattle.line.specs.Links.{Linked}
 
 -- "NIDEC holds for p when p's bag is empty and no other station has p as a neighbour or as an introduction in its bag."
 -- The leaving mark of p plays no part.
-pub record Nidec (line : Line) (p : Site) : Type 0 where
+pub record Nidec (line : Line) (p : Node) : Type 0 where
   pub empty : p .bag ≡ []
-  pub unnamed : (s : Site) → Member s line → number s ≢ number p → ¬ Linked s (number p)
+  pub unnamed : (s : Node) → Member s line → number s ≢ number p → ¬ Linked s (number p)
 
--- The same as a test.
+-- The tests, tied to the statements by `NidecTested` of Claims.antt.
 unfoldable pub isNeighbour : ℕ → Neighbour → Bool
 isNeighbour n None = false
 isNeighbour n (Station m) = eqb n m
 
-unfoldable pub names : ℕ → Site → Bool
+unfoldable pub names : ℕ → Node → Bool
 names n s = isNeighbour n (s .station .left) || (isNeighbour n (s .station .right) || holds (introduction n) (s .bag))
 
 unfoldable pub isEmpty : List Message → Bool
 isEmpty [] = true
 isEmpty (m ∷ b) = false
 
-unfoldable pub nidec : Line → Site → Bool
-nidec line p = isEmpty (p .bag) && all (λ (s : Site). eqb (number s) (number p) || not (names (number p) s)) line
+unfoldable pub nidec : Line → Node → Bool
+nidec line p = isEmpty (p .bag) && all (λ (s : Node). eqb (number s) (number p) || not (names (number p) s)) line

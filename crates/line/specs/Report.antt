@@ -1,24 +1,24 @@
 -- Figure 1 of source 000, "Algorithm SL for process p", in its own form: guards and commands over the variables of a process.
 -- Where the printed layout of the figure is unclear, the step rules of document 01 decide, and the claim `ReportAgrees` ties both.
-use Prim.Native.Nat.{ℕ, _≤_}
+use Prim.Native.Nat.{ℕ}
 use mathlib.Core.Path.{_≡_}
 use mathlib.Core.Bool.{Bool, true, false, cond, not, _&&_}
 use mathlib.Core.Option.{Option, none, some}
-use mathlib.Core.List.{List, [], _∷_, _++_}
+use mathlib.Core.List.{List, [], _++_}
 use mathlib.Core.List.{List·Memᴰ as Member}
 use lib.Dec.{ltb}
-use lib.ListN.{length}
 use Rattle.line.specs.declared.Neighbour.{Neighbour}
 use Rattle.line.specs.declared.Neighbour.the-variants.{None, Station}
 use Rattle.line.specs.declared.Content.{Content}
 use Rattle.line.specs.declared.Content.the-variants.{Introduction, RemoveLeft, RemoveRight}
 use Rattle.line.specs.declared.Message.{Message}
+use Rattle.line.specs.declared.Marks.{Marks}
 use Rattle.line.specs.declared.Side.the-variants.{Left, Right}
 use Rattle.line.specs.declared.Action.{Action}
 use Rattle.line.specs.declared.Action.the-variants.{Timeout, Deliver, Exit}
 use Rattle.line.specs.declared.Step as declared
 use Rattle.line.specs.Message.{introduction, removal, remove}
-use Rattle.line.specs.Site.{Site, Line, number}
+use Rattle.line.specs.Node.{Node, Line, number}
 use Rattle.line.specs.Nidec.{Nidec}
 use Rattle.line.specs.Act.{Send}
 use Rattle.line.specs.Act as act
@@ -70,7 +70,7 @@ mail (Req remright) (process q) = act.send q (removal Right)
 -- Here a channel is a bag: document 01 counts every copy.
 pub record Process : Type 0 where
   pub p : ℕ
-  pub leaving : Bool
+  pub marks : Marks
   pub left : Id
   pub right : Id
   pub C : List Message
@@ -103,7 +103,7 @@ unfoldable pub req : Direction → Expression Mail
 req d v = Req d
 
 unfoldable pub not-leaving : Expression Bool
-not-leaving v = not (v .leaving)
+not-leaving v = not (v .marks .leaving)
 
 unfoldable pub defined : Expression Id → Expression Bool
 defined e v = isProcess (e v)
@@ -130,21 +130,21 @@ if_then_else_ t c k v = cond (t v) (c v) (k v)
 
 infix 30 send_to_
 unfoldable pub send_to_ : Expression Mail → Expression Id → Command
-send_to_ m q v = record { p = v .p; leaving = v .leaving; left = v .left; right = v .right; C = v .C; sent = v .sent ++ mail (m v) (q v); exited = v .exited }
+send_to_ m q v = record { p = v .p; marks = v .marks; left = v .left; right = v .right; C = v .C; sent = v .sent ++ mail (m v) (q v); exited = v .exited }
 
 infix 30 left:=_
 unfoldable pub left:=_ : Expression Id → Command
-left:=_ e v = record { p = v .p; leaving = v .leaving; left = e v; right = v .right; C = v .C; sent = v .sent; exited = v .exited }
+left:=_ e v = record { p = v .p; marks = v .marks; left = e v; right = v .right; C = v .C; sent = v .sent; exited = v .exited }
 
 infix 30 right:=_
 unfoldable pub right:=_ : Expression Id → Command
-right:=_ e v = record { p = v .p; leaving = v .leaving; left = v .left; right = e v; C = v .C; sent = v .sent; exited = v .exited }
+right:=_ e v = record { p = v .p; marks = v .marks; left = v .left; right = e v; C = v .C; sent = v .sent; exited = v .exited }
 
 unfoldable pub receive : Message → Command
-receive m v = record { p = v .p; leaving = v .leaving; left = v .left; right = v .right; C = remove m (v .C); sent = v .sent; exited = v .exited }
+receive m v = record { p = v .p; marks = v .marks; left = v .left; right = v .right; C = remove m (v .C); sent = v .sent; exited = v .exited }
 
 unfoldable pub exited : Command
-exited v = record { p = v .p; leaving = v .leaving; left = v .left; right = v .right; C = v .C; sent = v .sent; exited = true }
+exited v = record { p = v .p; marks = v .marks; left = v .left; right = v .right; C = v .C; sent = v .sent; exited = true }
 
 -- "timeout: true →"
 unfoldable pub timeout : Command
@@ -182,10 +182,10 @@ command Timeout = timeout
 command (Deliver m) = receive m ⨾ handle (m .content)
 command Exit = exit
 
-abbrev pub Guard : Line → Site → Action → Type 0
+abbrev pub Guard : Line → Node → Action → Type 0
 Guard line s Timeout = Unit {0}
 Guard line s (Deliver m) = Member m (s .bag)
-Guard line s Exit = Nidec line s × (s .station .leaving ≡ true)
+Guard line s Exit = Nidec line s × (s .station .marks .leaving ≡ true)
 
 -- A station as a process, and back.
 unfoldable pub leftId : Neighbour → Id
@@ -201,10 +201,10 @@ neighbourOf −∞ = None
 neighbourOf (process n) = Station n
 neighbourOf +∞ = None
 
-unfoldable pub processOf : Site → Process
+unfoldable pub processOf : Node → Process
 processOf s = record {
   p = s .station .number;
-  leaving = s .station .leaving;
+  marks = s .station .marks;
   left = leftId (s .station .left);
   right = rightId (s .station .right);
   C = s .bag;
@@ -212,23 +212,23 @@ processOf s = record {
   exited = false;
 }
 
-unfoldable pub siteOf : Process → Option Site
-siteOf v =
+unfoldable pub nodeOf : Process → Option Node
+nodeOf v =
     cond (v .exited) none
     (some
     (record {
-      station = record { number = v .p; left = neighbourOf (v .left); right = neighbourOf (v .right); leaving = v .leaving };
+      station = record { number = v .p; left = neighbourOf (v .left); right = neighbourOf (v .right); marks = v .marks };
       bag = v .C;
     }))
 
 -- The state after an enabled action: the process has run its command, and what it sent is in the channels.
-unfoldable pub stateAfter : Line → Site → Action → Line
-stateAfter line s a = let v = command a (processOf s) in sendAll (v .sent) (replace (number s) (siteOf v) line)
+unfoldable pub stateAfter : Line → Node → Action → Line
+stateAfter line s a = let v = command a (processOf s) in sendAll (v .sent) (replace (number s) (nodeOf v) line)
 
 -- Figure 1 allows step x in the state line, and leads to the state after.
 pub record Fires (line : Line) (x : declared.Step) (after : Line) : Type 0 where
-  pub site : Site
-  pub member : Member site line
-  pub named : number site ≡ x .station
-  pub guard : Guard line site (x .action)
-  pub result : after ≡ stateAfter line site (x .action)
+  pub node : Node
+  pub member : Member node line
+  pub named : number node ≡ x .station
+  pub guard : Guard line node (x .action)
+  pub result : after ≡ stateAfter line node (x .action)

@@ -6,7 +6,7 @@ use Rattle.line.specs.declared.Reading.the-variants.{Step, Refused}
 use Rattle.line.specs.declared.Ending.{Ending}
 use Rattle.line.specs.declared.Ending.the-variants.{Complete, Stopped}
 use Rattle.line.specs.Answer.{Answer, refused, done}
-use Rattle.line.specs.Site.{Line}
+use Rattle.line.specs.Node.{Line}
 use Rattle.line.specs.Step.{step}
 
 -- a step as it was read: a malformed one is refused whatever the line

@@ -12,7 +12,8 @@ use Rattle.line.specs.declared.Action.the-variants.{Timeout, Deliver, Ex
 use Rattle.line.specs.declared.Refusal.the-variants.{Held}
 use Rattle.line.specs.Answer.{Answer, refused, done}
 use Rattle.line.specs.Message.{introduction, removal}
-use Rattle.line.specs.Site.{Site, Line}
+use Rattle.line.specs.Marks.{plain}
+use Rattle.line.specs.Node.{Node, Line}
 use Rattle.line.specs.Step.{step}
 use Rattle.line.specs.Accepted.{accepted}
 
@@ -26,17 +27,17 @@ pub record Situation : Type 0 where
 abbrev pub Holds : Situation → Type 0
 Holds x = (accepted (x .before) ≡ true) × (step (x .before) (x .step) ≡ x .gives)
 
-abbrev pub site : ℕ → Neighbour → Neighbour → Bool → List Message → Site
-site n l r leaving b = record { station = record { number = n; left = l; right = r; leaving = leaving }; bag = b }
+abbrev pub node : ℕ → Neighbour → Neighbour → Bool → List Message → Node
+node n l r leaving b = record { station = record { number = n; left = l; right = r; marks = plain leaving }; bag = b }
 
-abbrev pub staying : ℕ → Neighbour → Neighbour → List Message → Site
-staying n l r b = site n l r false b
+abbrev pub staying : ℕ → Neighbour → Neighbour → List Message → Node
+staying n l r b = node n l r false b
 
-abbrev pub leaving : ℕ → Neighbour → Neighbour → List Message → Site
-leaving n l r b = site n l r true b
+abbrev pub leaving : ℕ → Neighbour → Neighbour → List Message → Node
+leaving n l r b = node n l r true b
 
 -- a station with no neighbours, and its bag
-abbrev pub single : ℕ → List Message → Site
+abbrev pub single : ℕ → List Message → Node
 single n b = staying n None None b
 
 abbrev pub timeoutAt : ℕ → declared.Step

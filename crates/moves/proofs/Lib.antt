@@ -1,5 +1,3 @@
 -- What the proofs of the parts of a step share.
-pub mod StepWays
-pub mod NidecWays
-pub mod Dropping
-pub mod SendWays
+pub mod Holding
+pub mod Sending

@@ -1,4 +1,3 @@
 -- What a reader must believe of the parts of a step, in reading order.
-pub mod Steps
+pub mod Holders
 pub mod Sends
-pub mod Exits

@@ -1,13 +1,14 @@
-// The parts of a step over the arrays of a run (document 01, "The step list" and "What a step does at station p").
-pub mod exits;
+// The parts of a step over the arrays of a run (document 01, "What a step does at station p").
+pub mod holders;
 pub mod sends;
-pub mod steps;
 
 use rules::Decision;
+use rules::Verdict;
 
-// The decision of a station, and the places of those who receive.
-pub struct Aimed {
+// A step worked out before anything is stored: what the station decides, the slots of those who receive, and whether the step is done.
+pub struct Plan {
     pub decision: Decision,
     pub first: usize,
     pub second: usize,
+    pub verdict: Verdict,
 }

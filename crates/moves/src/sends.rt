@@ -1,65 +1,39 @@
-// What a step sends, and where it arrives (document 01, "What a step does at station p" and "The numbers a crew may see", 12 to 15).
-// What refuses a step is known before anything is stored.
-use crate::Aimed;
+// What a step sends and where it arrives, and what it leaves of the bags (document 01, "What a step does at station p" and "The numbers a
+// crew may see", 12 to 15). What refuses a step is known before anything is stored.
+use crate::Plan;
 use bag::Bag;
 use bag::Taken;
+use index::lookup;
 use line::Action;
+use line::Message;
+use line::Refusal;
 use line::Station;
 use rules::Decision;
 use rules::Sending;
 use rules::Verdict;
 use rules::decide;
-use table::numbers::lookup;
 ghost use mathlib.Core.Path.{_≡_};
-ghost use Rattle.line.specs.Site.{Rising};
-ghost use Rattle.moves.specs.Sends.{verdictNumber, receiverOf, roomFor, answerOf, Aims, Draws};
+ghost use Prim.Native.Nat.{_<_};
+ghost use lib.ListN.{length, getD};
+ghost use Rattle.lists.specs.Numbers.{Rising};
+ghost use Rattle.index.specs.Index.{slotIn, numbersIn};
+ghost use Rattle.moves.specs.Sends.{receiverOf, roomFor, verdictOf, Plans, BagAfter, PutIn};
 
-// The number of a refusal, or 0.
-fn number_of(verdict: Verdict) -> u32
-    ensures { λ r. ⌜ r ≡ verdictNumber verdict ⌝ }
-{
-    match verdict {
-        Verdict::Done => 0,
-        Verdict::Refused(refusal) => refusal.number(),
-    }
-}
-
-// The place of the receiver; the sender's own place i where nothing is sent, or where nobody has that number.
-fn receiver(numbers: &[u32], sending: Sending, i: usize) -> usize
-    requires { ⌜ Rising (now numbers) ⌝ }
-    ensures { λ r. ⌜ r ≡ receiverOf (now (numbers .entry)) sending i ⌝ }
+// The slot of the receiver; the sender's own, at place i, where nothing is sent, or where nobody has that number.
+fn receiver(index: &[u64], sending: Sending, i: usize) -> usize
+    requires { ⌜ (i < length (now index)) × Rising (numbersIn (now index)) ⌝ }
+    ensures { λ r. ⌜ r ≡ slotIn (getD (now (index .entry)) (receiverOf (numbersIn (now (index .entry))) sending i) 0) ⌝ }
 {
     match sending {
-        Sending::Nothing => i,
+        Sending::Nothing => (index[i] % 64) as usize,
         Sending::To(q, _) => {
-            let j = lookup(numbers, q);
-            if j < numbers.len() { j } else { i }
+            let j = lookup(index, q);
+            if j < index.len() {
+                (index[j] % 64) as usize
+            } else {
+                (index[i] % 64) as usize
+            }
         }
-    }
-}
-
-// What the station at place i decides, and who receives.
-pub fn aim(
-    numbers: &[u32],
-    i: usize,
-    alone: bool,
-    found: bool,
-    station: Station,
-    action: Action,
-) -> Aimed
-    requires { ⌜ Rising (now numbers) ⌝ }
-    ensures { λ r. ⌜ Aims (now (numbers .entry)) i alone found station action r ⌝ }
-{
-    let decision = decide(alone, found, station, action);
-    let sendings = decision.sendings;
-    let one = sendings.first;
-    let two = sendings.second;
-    let first = receiver(numbers, one, i);
-    let second = receiver(numbers, two, i);
-    Aimed {
-        decision,
-        first,
-        second,
     }
 }
 
@@ -69,32 +43,61 @@ fn room_for(sending: Sending, count: usize) -> bool
 {
     match sending {
         Sending::Nothing => true,
-        Sending::To(q, _) => count < 32,
+        Sending::To(_, _) => count < 32,
     }
 }
 
-// The refusal of a step, 12 to 15 in the order of the numbers, or 0; of the counts of the receivers' bags.
-pub fn refusal(decision: Decision, first: usize, second: usize) -> u32
-    ensures { λ r. ⌜ r ≡ answerOf decision first second ⌝ }
+// Whether a step is done: the refusal of the station itself, 12 to 14, and then that of a full bag, of the counts of the receivers' bags.
+fn verdict_of(decision: Decision, first: usize, second: usize) -> Verdict
+    ensures { λ r. ⌜ r ≡ verdictOf decision first second ⌝ }
 {
     let verdict = decision.verdict;
-    let refused = number_of(verdict);
-    if refused != 0 {
-        return refused;
-    }
     let sendings = decision.sendings;
     let one = sendings.first;
     let two = sendings.second;
-    if room_for(one, first) & room_for(two, second) {
-        0
-    } else {
-        15
+    match verdict {
+        Verdict::Refused(why) => Verdict::Refused(why),
+        Verdict::Done => {
+            if room_for(one, first) & room_for(two, second) {
+                Verdict::Done
+            } else {
+                Verdict::Refused(Refusal::Full)
+            }
+        }
+    }
+}
+
+// The step of the station at place i of the index. found says whether its bag holds the message to deliver.
+pub fn plan(
+    index: &[u64],
+    counts: &[usize; 64],
+    i: usize,
+    nidec_holds: bool,
+    found: bool,
+    station: Station,
+    action: Action,
+) -> Plan
+    requires { ⌜ (i < length (now index)) × Rising (numbersIn (now index)) ⌝ }
+    ensures { λ r. ⌜ Plans (now (index .entry)) (now (counts .entry)) i «nidec_holds» found station action r ⌝ }
+{
+    let decision = decide(nidec_holds, found, station, action);
+    let sendings = decision.sendings;
+    let one = sendings.first;
+    let two = sendings.second;
+    let first = receiver(index, one, i);
+    let second = receiver(index, two, i);
+    let verdict = verdict_of(decision, counts[first], counts[second]);
+    Plan {
+        decision,
+        first,
+        second,
+        verdict,
     }
 }
 
 // The station's own bag after the step, and whether it held the message of a delivery.
-pub fn draw(action: Action, own: Bag) -> Taken
-    ensures { λ r. ⌜ Draws action own r ⌝ }
+pub fn bag_after(action: Action, own: Bag) -> Taken
+    ensures { λ r. ⌜ BagAfter action own r ⌝ }
 {
     match action {
         Action::Timeout => Taken {
@@ -107,4 +110,23 @@ pub fn draw(action: Action, own: Bag) -> Taken
             found: false,
         },
     }
+}
+
+// The row of a slot with one message more, whose count is raised.
+pub fn put_in(
+    row: [Message; 32],
+    counts: &mut [usize; 64],
+    slot: usize,
+    message: Message,
+) -> [Message; 32]
+    requires { ⌜ (slot < 64) × (getD (now counts) slot 0 < 32) ⌝ }
+    ensures { λ r. ⌜ PutIn row (now (counts .entry)) slot message r (now (counts .exit)) ⌝ }
+{
+    let bag = Bag {
+        messages: row,
+        count: counts[slot],
+    };
+    let after = bag.put(message);
+    counts[slot] = after.count;
+    after.messages
 }

@@ -3,16 +3,11 @@ use mathlib.Core.Path.{_≡_}
 use mathlib.Core.List.{List, [], _∷_}
 use mathlib.Core.Bool.{_&&_}
 use Prim.Native.Nat.{ℕ, suc, _+_, _-_, _≤_, _<_}
-use native.Mathlib.Numerals.{add-one}
 use native.Mathlib.Omega.{arith}
 use lib.Dec.{eqb}
-use lib.ListN.{length, drop, getD}
-use lib.Seq.{drop-cons}
+use lib.ListN.{length, getD}
+use Rattle.lists.proofs.Elements.{drop-one}
 use Rattle.octets.specs.Bytes.{part, allZero}
-
--- the list from i on is the element at i, then the list from i + 1 on
-pub drop-one : {A : Type 0} (l : List A) (d : A) (i : ℕ) → i < length l → drop i l ≡ getD l i d ∷ drop (i + 1) l
-drop-one l d i h = rw (add-one, drop-cons l i d)
 
 -- the part from i to e is the byte at i, then the part from i + 1 to e
 part-one : (l : List ℕ) (i e : ℕ) → i < e → e ≤ length l → part l i e ≡ getD l i 0 ∷ part l (i + 1) e

@@ -8,7 +8,7 @@ use native.Mathlib.Omega.{arith}
 use lib.ListN.{length, getD, take, drop, length-append}
 use lib.Seq.{take-at, drop-at}
 use Rattle.octets.specs.Bytes.{word, quad, le16, le32, AreBytes}
-use Rattle.octets.proofs.Cuts.{drop-one}
+use Rattle.lists.proofs.Elements.{drop-one}
 
 -- x in k bytes, the lowest first, and the number that bytes say
 unfoldable little : ℕ → ℕ → List ℕ

@@ -5,7 +5,7 @@ use Prim.Native.Nat.{ℕ, zero, suc, _+_, _*_, _≤_, _<_}
 use native.Mathlib.Omega.{arith}
 use lib.ListN.{length, drop, drop-of-length-le}
 use Rattle.octets.specs.Bytes.{word, sumWords}
-use Rattle.octets.proofs.Cuts.{drop-one}
+use Rattle.lists.proofs.Elements.{drop-one}
 
 -- the words from i on: the word at i, then those from i + 2 on
 pub sum-step : (l : List ℕ) (i : ℕ) → i + 2 ≤ length l → sumWords (drop i l) ≡ word l i + sumWords (drop (i + 2) l)

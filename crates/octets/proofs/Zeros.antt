@@ -8,6 +8,7 @@ use borrow.Author.Tests.{eqb-true}
 use lib.Dec.{eqb}
 use lib.ListN.{length, take, drop, replicate, length-drop, length-replicate, take-append-drop}
 use lib.Seq.{take-append-le, drop-append-le, drop-append-add, drop-drop, length-take-le}
+use Rattle.lists.proofs.Filling.{drop-replicate}
 use Rattle.octets.specs.Bytes.{part, allZero}
 use Rattle.octets.proofs.Both.{and-left, and-right}
 
@@ -23,11 +24,6 @@ pass-zeros [] h = refl
 pass-zeros (x ∷ l) h = rw (eqb-true x 0 (and-left (eqb x 0) (allZero l) h), ← pass-zeros l (and-right (eqb x 0) (allZero l) h))
 
 -- what is left of equal elements
-pub drop-replicate : {A : Type 0} (k n : ℕ) (a : A) → drop k (replicate n a) ≡ replicate (n - k) a
-drop-replicate zero n a = let e : n - 0 ≡ n = omega arith in rw e
-drop-replicate (suc k) zero a = let e : 0 - suc k ≡ 0 = omega arith in rw e
-drop-replicate (suc k) (suc n) a = let e : suc n - suc k ≡ n - k = omega arith in rw e (drop-replicate k n a)
-
 take-replicate : {A : Type 0} (k n : ℕ) (a : A) → k ≤ n → take k (replicate n a) ≡ replicate k a
 take-replicate zero zero a h = refl
 take-replicate zero (suc n) a h = refl

@@ -3,16 +3,17 @@ use Prim.Native.Nat.{ℕ}
 use mathlib.Core.Path.{_≡_}
 use mathlib.Core.List.{List, _++_}
 use lib.ListN.{length, drop}
-use Rattle.table.specs.Blocks.{sites}
-use Rattle.engine.specs.Ran.{Outcome, tableIn}
+use Rattle.table.specs.Blocks.{nodes}
+use Rattle.finishing.specs.Ended.{Outcome}
+use Rattle.engine.specs.Ran.{tableIn}
 use Rattle.text.specs.Listing.{listingText}
 
 -- the answer, both counts, and a line per station of the table written
 unfoldable pub printed : Outcome → List ℕ
-printed o = listingText (o .answer) (o .done) (o .stations) (sites (tableIn o))
+printed o = listingText (o .answer) (o .done) (o .stations) (nodes (tableIn o))
 
 -- the room is left as the run leaves it, and the first n bytes of `after` are the listing; the rest is as it was before
-pub record Lists (o : Outcome) (room before : List ℕ) (n : ℕ) (after : List ℕ) : Type 0 where
+pub record Prints (o : Outcome) (room before : List ℕ) (n : ℕ) (after : List ℕ) : Type 0 where
   pub room-is : room ≡ o .room
   pub filled : n ≡ length (printed o)
   pub text : after ≡ printed o ++ drop n before

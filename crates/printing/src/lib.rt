@@ -1,12 +1,12 @@
 // The program that runs a list (document 01, "The printed listing"): it reads two files and prints the listing of the run.
-use engine::runs::run;
+use engine::run;
 use libc::STDOUT_FILENO;
 use text::write_listing;
 ghost use Prim.Native.Nat.{_≤_};
 ghost use lib.ListN.{length};
 ghost use Rattle.io.specs.Counts.{Counts};
 ghost use Rattle.engine.specs.Ran.{outcome};
-ghost use Rattle.printing.specs.Printed.{Lists};
+ghost use Rattle.printing.specs.Printed.{Prints};
 
 // How many bytes of a file were read, and whether it could be read at all.
 pub struct Got {
@@ -18,7 +18,7 @@ pub struct Got {
 // written to the room.
 pub fn list_run(table: &[u8], steps: &[u8], room: &mut [u8], out: &mut [u8]) -> usize
     requires { ⌜ 40000 ≤ length (now out) ⌝ }
-    ensures { λ r. ⌜ Lists (outcome (now (table .entry)) (now (steps .entry)) (now (room .entry))) (now (room .exit)) (now (out .entry)) r (now (out .exit)) ⌝ }
+    ensures { λ r. ⌜ Prints (outcome (now (table .entry)) (now (steps .entry)) (now (room .entry))) (now (room .exit)) (now (out .entry)) r (now (out .exit)) ⌝ }
     ensures { λ r. ⌜ Counts r (now (out .exit)) ⌝ }
 {
     let ran = run(table, steps, room);

@@ -2,13 +2,12 @@
 -- because NIDEC and In line are the same of alike lines.
 use Prim.Native.Nat.{ℕ}
 use mathlib.Core.Path.{_≡_, refl, sym, ap, _∙_, subst}
-use mathlib.Core.Logic.{_↔_, ⊎-elim}
-use mathlib.Core.Bool.{Bool, true, false, cond}
-use mathlib.Core.List.{List, [], _∷_, List·Memᴰ·not-nil, List·Memᴰ·cases-cons, Memᴰ·cast}
+use mathlib.Core.Logic.{_↔_}
+use mathlib.Core.Bool.{Bool, true, false}
+use mathlib.Core.List.{List, [], _∷_, List·Memᴰ·not-nil, Memᴰ·cast}
 use mathlib.Core.List.{List·Memᴰ as Member, List·Memᴰ·head as here}
 use native.Mathlib.Omega.{arith}
-use lib.Dec.{eqb}
-use borrow.Author.Tests.{eq-eqb, eqb-false}
+use borrow.Author.Tests.{eq-eqb}
 use Rattle.line.specs.declared.Neighbour.{Neighbour}
 use Rattle.line.specs.declared.Neighbour.the-variants.{None, Station}
 use Rattle.line.specs.declared.Message.{Message}
@@ -16,19 +15,19 @@ use Rattle.line.specs.declared.Side.{Side}
 use Rattle.line.specs.declared.Side.the-variants.{Left, Right}
 use Rattle.line.specs.Answer.{done}
 use Rattle.line.specs.Message.{same}
-use Rattle.line.specs.Site.{Site, Line, number, Present, neighbour}
+use Rattle.line.specs.Node.{Node, Line, number, neighbour}
 use Rattle.line.specs.Links.{Linked, by-neighbour, by-introduction}
-use Rattle.line.specs.Alike.{AlikeSites, Alike}
+use Rattle.line.specs.Alike.{AlikeNodes, Alike}
 use Rattle.line.specs.Nidec.{Nidec, nidec}
 use Rattle.line.specs.InLine.{IsNext, InLine, inLine}
 use Rattle.line.specs.Step.{find}
-use Rattle.line.proofs.Lists.{clash, counts-one, counted, mem-map}
+use Rattle.lists.proofs.Lists.{clash, counts-one, counted, mem-map}
 use Rattle.line.proofs.Messages.{same-true, same-refl}
-use Rattle.line.proofs.Whole.{site-of, found}
+use Rattle.line.proofs.Changes.{node-of, found, present-found}
 use Rattle.line.proofs.NidecTest.{nidec-tested}
 use Rattle.line.proofs.InLineTest.{in-line-tested}
 use Rattle.line.proofs.WrittenOrder.{written-order-keeps}
-use Rattle.table.specs.Blocks.{sites, lineOf}
+use Rattle.table.specs.Blocks.{nodes, lineOf}
 use Rattle.table.specs.Fault.{faultOf}
 use Rattle.table.proofs.Accepting.{table-accepted}
 use Rattle.questions.specs.declared.Told.{Told}
@@ -36,15 +35,15 @@ use Rattle.questions.specs.declared.Told.the-variants.{Yes}
 use Rattle.questions.specs.Told.{yesNo, asked, leaveAt, mayLeave, isInLine}
 use Rattle.questions.specs.Claims.{MayLeaveMeans, InLineMeans}
 
--- alike sites are alike either way round
-sites-back : {s t : Site} → AlikeSites s t → AlikeSites t s
-sites-back h = record { left = sym (h .left); right = sym (h .right); leaving = sym (h .leaving); bag = λ m. sym (h .bag m) }
+-- alike nodes are alike either way round
+nodes-back : {s t : Node} → AlikeNodes s t → AlikeNodes t s
+nodes-back h = record { left = sym (h .left); right = sym (h .right); marks = sym (h .marks); bag = λ m. sym (h .bag m) }
 
 -- so are alike lines
 alike-back : {a b : Line} → Alike a b → Alike b a
 alike-back h = record {
   stations = λ n. (h .stations n .1, h .stations n .0);
-  sites = λ s t m k e. sites-back (h .sites t s k m (sym e));
+  nodes = λ s t m k e. nodes-back (h .nodes t s k m (sym e));
 }
 
 -- a bag without messages is empty
@@ -52,8 +51,8 @@ nothing-in : (b : List Message) → ((m : Message) → ¬ Member m b) → b ≡ 
 nothing-in [] h = refl
 nothing-in (m ∷ b) h = absurd (h m (here refl))
 
--- Of alike sites:
-module _ {s t : Site} (h : AlikeSites s t) where
+-- Of alike nodes:
+module _ {s t : Node} (h : AlikeNodes s t) where
   -- what is in one bag is in the other
   same-messages : {m : Message} → Member m (s .bag) → Member m (t .bag)
   same-messages {m} k =
@@ -62,7 +61,6 @@ module _ {s t : Site} (h : AlikeSites s t) where
 
   -- the neighbours are the same
   same-neighbour : (d : Side) → neighbour d (s .station) ≡ neighbour d (t .station)
-  unfolding neighbour
   same-neighbour Left = h .left
   same-neighbour Right = h .right
 
@@ -71,32 +69,32 @@ module _ {s t : Site} (h : AlikeSites s t) where
   same-links (by-neighbour d e) = by-neighbour d (sym (same-neighbour d) ∙ e)
   same-links (by-introduction m) = by-introduction (same-messages m)
 
--- an empty bag is empty in the alike site
-same-empty : {s t : Site} → AlikeSites s t → s .bag ≡ [] → t .bag ≡ []
-same-empty {s} {t} h e = nothing-in (t .bag) (λ m k. List·Memᴰ·not-nil (subst (Member m) e (same-messages (sites-back h) k)))
+-- an empty bag is empty in the alike node
+same-empty : {s t : Node} → AlikeNodes s t → s .bag ≡ [] → t .bag ≡ []
+same-empty {s} {t} h e = nothing-in (t .bag) (λ m k. List·Memᴰ·not-nil (subst (Member m) e (same-messages (nodes-back h) k)))
 
--- a site of a line that is alike to a site of another
-record Partner (line : Line) (s : Site) : Type 0 where
-  site : Site
-  member : Member site line
-  named : number s ≡ number site
-  alike : AlikeSites s site
+-- a node of a line that is alike to a node of another
+record Partner (line : Line) (s : Node) : Type 0 where
+  node : Node
+  member : Member node line
+  named : number s ≡ number node
+  alike : AlikeNodes s node
 
 -- Of alike lines:
 module _ (a b : Line) (h : Alike a b) where
-  -- each site of one has an alike site in the other
-  partner : (t : Site) → Member t b → Partner a t
+  -- each node of one has an alike node in the other
+  partner : (t : Node) → Member t b → Partner a t
   partner t m =
-      let w = site-of a (h .stations (number t) .1 (mem-map number m)) in
-      record { site = w .0; member = w .1; named = w .2; alike = sites-back (h .sites (w .0) t (w .1) m (sym (w .2))) }
+      let w = node-of a (h .stations (number t) .1 (mem-map number m)) in
+      record { node = w .0; member = w .1; named = w .2; alike = nodes-back (h .nodes (w .0) t (w .1) m (sym (w .2))) }
 
-  -- NIDEC holds for the alike site
-  nidec-alike : {s t : Site} → Member s a → Member t b → number s ≡ number t → Nidec a s → Nidec b t
+  -- NIDEC holds for the alike node
+  nidec-alike : {s t : Node} → Member s a → Member t b → number s ≡ number t → Nidec a s → Nidec b t
   nidec-alike {s} {t} m k e n = record {
-    empty = same-empty (h .sites s t m k e) (n .empty);
+    empty = same-empty (h .nodes s t m k e) (n .empty);
     unnamed = λ u i x l.
         let p = partner u i in
-        n .unnamed (p .site) (p .member) (λ z. x (p .named ∙ z ∙ e)) (subst (Linked (p .site)) (sym e) (same-links (p .alike) l));
+        n .unnamed (p .node) (p .member) (λ z. x (p .named ∙ z ∙ e)) (subst (Linked (p .node)) (sym e) (same-links (p .alike) l));
   }
 
   -- the next station on a side is the same
@@ -112,14 +110,14 @@ module _ (a b : Line) (h : Alike a b) where
   in-line-alike : InLine a → InLine b
   in-line-alike l t m d =
       let p = partner t m in
-      let k = neighbour d (p .site .station) in
-      let n = next-alike d (number (p .site)) k (l (p .site) (p .member) d) in
+      let k = neighbour d (p .node .station) in
+      let n = next-alike d (number (p .node)) k (l (p .node) (p .member) d) in
       subst (IsNext b d (number t)) (sym (same-neighbour (p .alike) d)) (subst (λ (x : ℕ). IsNext b d x k) (sym (p .named)) n)
 
 -- the blocks in stored order are alike to the line in written order
-reading-alike : (t : List ℕ) → faultOf t ≡ 0 → Alike (sites t) (lineOf t)
+reading-alike : (t : List ℕ) → faultOf t ≡ 0 → Alike (nodes t) (lineOf t)
 unfolding lineOf
-reading-alike t h = written-order-keeps (sites t) (table-accepted t h .0) .2
+reading-alike t h = written-order-keeps (nodes t) (table-accepted t h .0) .2
 
 -- a question of an accepted table gets its answer
 pub answered : (t : List ℕ) (x : Told) → faultOf t ≡ 0 → asked t x ≡ x
@@ -130,18 +128,8 @@ yes-means : (b : Bool) → (yesNo b ≡ Yes) ↔ (b ≡ true)
 yes-means true = (λ e. refl, λ e. refl)
 yes-means false = (λ e. absurd (let z : _≡_ {A = ℕ} 0 1 = cc in omega arith), λ e. clash e refl)
 
--- a station with a block is found
-is-found : (n : ℕ) (line : Line) → Present line n → (s : Site) × (find n line ≡ done s)
-unfolding find
-is-found n [] m = absurd (List·Memᴰ·not-nil m)
-is-found n (s ∷ line) m = go (eqb (number s) n) refl (is-found n line)
-  where
-    go : (b : Bool) → eqb (number s) n ≡ b → (Present line n → (u : Site) × (find n line ≡ done u)) → (u : Site) × (cond b (done s) (find n line) ≡ done u)
-    go true e f = (s, refl)
-    go false e f = f (⊎-elim (λ z. absurd (eqb-false (number s) n e (sym z))) (λ k. k) (List·Memᴰ·cases-cons m))
-
--- and asked whether NIDEC holds for it
-leave-answered : (t : List ℕ) (n : ℕ) {s : Site} → faultOf t ≡ 0 → find n (lineOf t) ≡ done s → mayLeave t n ≡ yesNo (nidec (lineOf t) s)
+-- a station with a block is found, and asked whether NIDEC holds for it
+leave-answered : (t : List ℕ) (n : ℕ) {s : Node} → faultOf t ≡ 0 → find n (lineOf t) ≡ done s → mayLeave t n ≡ yesNo (nidec (lineOf t) s)
 unfolding mayLeave
 leave-answered t n h e = answered t (leaveAt (lineOf t) (find n (lineOf t))) h ∙ ap (leaveAt (lineOf t)) e
 
@@ -149,13 +137,13 @@ leave-answered t n h e = answered t (leaveAt (lineOf t) (find n (lineOf t))) h �
 pub may-leave-means : MayLeaveMeans
 may-leave-means t s h m =
     let a = reading-alike t h in
-    let w = is-found (number s) (lineOf t) (a .stations (number s) .0 (mem-map number m)) in
+    let w = present-found (number s) (lineOf t) (a .stations (number s) .0 (mem-map number m)) in
     let f = found (number s) (lineOf t) (w .1) in
     let yes = yes-means (nidec (lineOf t) (w .0)) in
     let tested = nidec-tested (lineOf t) (w .0) in
     rw (leave-answered t (number s) h (w .1)) (
-      λ e. nidec-alike (lineOf t) (sites t) (alike-back a) (f .0) m (f .1) (tested .0 (yes .0 e)),
-      λ n. yes .1 (tested .1 (nidec-alike (sites t) (lineOf t) a m (f .0) (sym (f .1)) n)),
+      λ e. nidec-alike (lineOf t) (nodes t) (alike-back a) (f .0) m (f .1) (tested .0 (yes .0 e)),
+      λ n. yes .1 (tested .1 (nidec-alike (nodes t) (lineOf t) a m (f .0) (sym (f .1)) n)),
     )
 
 -- the question tests the written order, and being in line is that of the stored order
@@ -166,6 +154,6 @@ in-line-means t h =
     let yes = yes-means (inLine (lineOf t)) in
     let tested = in-line-tested (lineOf t) (table-accepted t h .2) in
     rw (answered t (yesNo (inLine (lineOf t))) h) (
-      λ e. in-line-alike (lineOf t) (sites t) (alike-back a) (tested .0 (yes .0 e)),
-      λ l. yes .1 (tested .1 (in-line-alike (sites t) (lineOf t) a l)),
+      λ e. in-line-alike (lineOf t) (nodes t) (alike-back a) (tested .0 (yes .0 e)),
+      λ l. yes .1 (tested .1 (in-line-alike (nodes t) (lineOf t) a l)),
     )

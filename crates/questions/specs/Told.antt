@@ -4,7 +4,7 @@ use mathlib.Core.Bool.{Bool, true, false, cond}
 use mathlib.Core.List.{List}
 use lib.Dec.{eqb}
 use Rattle.line.specs.Answer.{Answer, refused, done, refusalNumber}
-use Rattle.line.specs.Site.{Line, Site}
+use Rattle.line.specs.Node.{Line, Node}
 use Rattle.line.specs.Nidec.{nidec}
 use Rattle.line.specs.Step.{find}
 use Rattle.line.specs.InLine.{inLine}
@@ -34,7 +34,7 @@ asked table t = cond (eqb (faultOf table) 0) t (Refused (faultOf table))
 
 -- "ask whether a station may leave, which is yes exactly when NIDEC holds for it, leaving mark or not"; "the leave question then looks
 -- for the station (11)"
-abbrev pub leaveAt : Line → Answer Site → Told
+abbrev pub leaveAt : Line → Answer Node → Told
 leaveAt line (refused r) = Refused (refusalNumber r)
 leaveAt line (done s) = yesNo (nidec line s)
 

@@ -1,26 +1,24 @@
 // The questions (document 01, "What the engine holds" and "The numbers a crew may see"): "A question checks the table first (1 to 7)",
 // and "At 0 a question returns yes or no as well".
-pub mod leaving;
+pub mod holders;
 
-use arrays::order;
-use arrays::read_numbers;
-use arrays::read_stations;
-use leaving::nidec;
+use block::station_of;
+use holders::first_holder;
+use index::lookup;
 use line::Neighbour;
 use line::Station;
-use table::check;
-use table::numbers::lookup;
+use octets::word_at;
+use table::block_at;
+use table::inspect;
+use table::number_at;
 ghost use mathlib.Core.Path.{_≡_};
-ghost use mathlib.Core.Bool.{_&&_, cond};
-ghost use Prim.Native.Nat.{_≤_};
-ghost use lib.Dec.{ltb};
-ghost use lib.ListN.{getD};
-ghost use Rattle.line.specs.declared.Neighbour.the-variants.{None, Station as At};
-ghost use Rattle.line.specs.InLine.{isSame, inLine};
+ghost use mathlib.Core.Bool.{_&&_};
+ghost use lib.ListN.{drop};
+ghost use Rattle.line.specs.InLine.{isSame, first, inLine};
 ghost use Rattle.line.specs.Step.{find};
-ghost use Rattle.block.specs.Said.{nobody};
 ghost use Rattle.table.specs.Blocks.{lineOf};
 ghost use Rattle.table.specs.Fault.{faultOf};
+ghost use Rattle.table.specs.Index.{indexOf};
 ghost use Rattle.questions.specs.Told.{toldNumber, toldYes, yesNo, leaveAt, mayLeave, isInLine};
 
 // What a question returns: the number of a refusal, or at 0 yes or no.
@@ -61,30 +59,37 @@ fn yes_no(holds: bool) -> Told
     if holds { Told::Yes } else { Told::No }
 }
 
-// Of an accepted table: "the leave question then looks for the station (11)", and NIDEC decides, "leaving mark or not".
-fn leave_of(table: &[u8], station: u32) -> Told
+// Of an accepted table and its index: "the leave question then looks for the station (11)", and NIDEC decides, "leaving mark or not".
+fn leave_of(table: &[u8], index: &[u64], station: u32) -> Told
     requires { ⌜ faultOf (now table) ≡ 0 ⌝ }
+    requires { ⌜ now index ≡ indexOf (now table) ⌝ }
     ensures { λ r. ⌜ r ≡ leaveAt (lineOf (now (table .entry))) (find station (lineOf (now (table .entry)))) ⌝ }
 {
-    let order = order(table);
-    let numbers = read_numbers(table, order);
-    let n = table.len() / 512;
-    let i = lookup(&numbers[..n], station);
-    if n <= i {
+    let i = lookup(index, station);
+    if index.len() <= i {
         return Told::Refused(11);
     }
-    yes_no(nidec(table, order, i))
+    let own = (index[i] % 64) as usize;
+    if word_at(block_at(table, own), 16) != 0 {
+        return Told::No;
+    }
+    if first_holder(table, index, station) < index.len() {
+        return Told::No;
+    }
+    Told::Yes
 }
 
 // Whether a station may leave.
 pub fn may_leave(table: &[u8], station: u32) -> Told
     ensures { λ r. ⌜ r ≡ mayLeave (now (table .entry)) station ⌝ }
 {
-    let fault = check(table);
-    if fault != 0 {
-        return Told::Refused(fault);
+    let inspected = inspect(table);
+    if inspected.fault != 0 {
+        return Told::Refused(inspected.fault);
     }
-    leave_of(table, station)
+    let index = inspected.index;
+    let n = table.len() / 512;
+    leave_of(table, &index[..n], station)
 }
 
 // Whether two neighbours are the same: both none, or one station.
@@ -109,36 +114,34 @@ fn stands(s: Station, before: Neighbour, after: Neighbour) -> bool
 {
     let left = s.left;
     let right = s.right;
-    if is_same(left, before) {
-        return is_same(right, after);
-    }
-    false
+    is_same(left, before) & is_same(right, after)
 }
 
-// The station at place i as a neighbour; none from place n on.
-fn present(stations: [Station; 64], n: usize, i: usize) -> Neighbour
-    requires { ⌜ n ≤ 64 ⌝ }
-    ensures { λ r. ⌜ r ≡ cond (ltb i n) (At (getD stations i (nobody .station) .number)) None ⌝ }
+// The station at place i of the index as a neighbour; none behind the last place.
+fn present(table: &[u8], index: &[u64], i: usize) -> Neighbour
+    requires { ⌜ faultOf (now table) ≡ 0 ⌝ }
+    requires { ⌜ now index ≡ indexOf (now table) ⌝ }
+    ensures { λ r. ⌜ r ≡ first (drop i (lineOf (now (table .entry)))) ⌝ }
 {
-    if i < n {
-        return Neighbour::Station(stations[i].number);
+    if i < index.len() {
+        let k = (index[i] % 64) as usize;
+        return Neighbour::Station(number_at(table, k));
     }
     Neighbour::None
 }
 
-// Of an accepted table: whether each station stands between the station before it and the station after it.
-fn all_stand(table: &[u8]) -> bool
+// Of an accepted table and its index: whether each station stands between the station before it and the station after it.
+fn all_stand(table: &[u8], index: &[u64]) -> bool
     requires { ⌜ faultOf (now table) ≡ 0 ⌝ }
+    requires { ⌜ now index ≡ indexOf (now table) ⌝ }
     ensures { λ r. ⌜ r ≡ inLine (lineOf (now (table .entry))) ⌝ }
 {
-    let order = order(table);
-    let stations = read_stations(table, order);
-    let n = table.len() / 512;
     let mut before = Neighbour::None;
     let mut i = 0;
-    while i < n {
-        let s = stations[i];
-        let after = present(stations, n, i + 1);
+    while i < index.len() {
+        let k = (index[i] % 64) as usize;
+        let s = station_of(block_at(table, k));
+        let after = present(table, index, i + 1);
         if stands(s, before, after) {
             before = Neighbour::Station(s.number);
             i += 1;
@@ -153,9 +156,11 @@ fn all_stand(table: &[u8]) -> bool
 pub fn in_line(table: &[u8]) -> Told
     ensures { λ r. ⌜ r ≡ isInLine (now (table .entry)) ⌝ }
 {
-    let fault = check(table);
-    if fault != 0 {
-        return Told::Refused(fault);
+    let inspected = inspect(table);
+    if inspected.fault != 0 {
+        return Told::Refused(inspected.fault);
     }
-    yes_no(all_stand(table))
+    let index = inspected.index;
+    let n = table.len() / 512;
+    yes_no(all_stand(table, &index[..n]))
 }

@@ -51,6 +51,6 @@ decided Done e = done e
 decided (Refused r) e = refused r
 
 -- d is the decision of station s with the bag b; a station that goes is the one that it was
-pub record Decides (alone : Bool) (s : declared.Station) (b : List Message) (a : Action) (d : Decision) : Type 0 where
-  pub says : decided (d .verdict) (effect d (rest a b)) ≡ act alone (record { station = s; bag = b }) a
+pub record Decides (nidecHolds : Bool) (s : declared.Station) (b : List Message) (a : Action) (d : Decision) : Type 0 where
+  pub says : decided (d .verdict) (effect d (rest a b)) ≡ act nidecHolds (record { station = s; bag = b }) a
   pub itself : d .gone ≡ true → d .station ≡ s

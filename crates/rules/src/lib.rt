@@ -11,7 +11,7 @@ ghost use mathlib.Core.Bool.{Bool, false};
 ghost use mathlib.Core.List.{List};
 ghost use Rattle.line.specs.declared.Message.{Message};
 ghost use Rattle.line.specs.Message as message;
-ghost use Rattle.line.specs.Site as site;
+ghost use Rattle.line.specs.Node as node;
 ghost use Rattle.line.specs.Act as act;
 ghost use Rattle.rules.specs.Decided.{sent, bothSent, reaction, isFound, Decides};
 
@@ -48,7 +48,7 @@ pub struct Decision {
 }
 
 fn opposite(side: Side) -> Side
-    ensures { λ r. ⌜ r ≡ site.opposite side ⌝ }
+    ensures { λ r. ⌜ r ≡ node.opposite side ⌝ }
 {
     match side {
         Side::Left => Side::Right,
@@ -56,23 +56,14 @@ fn opposite(side: Side) -> Side
     }
 }
 
-fn beyond(side: Side, p: u32, q: u32) -> bool
-    ensures { λ r. ⌜ r ≡ site.beyond side p q ⌝ }
-{
-    match side {
-        Side::Left => q < p,
-        Side::Right => p < q,
-    }
-}
-
 fn side_of(p: u32, q: u32) -> Side
-    ensures { λ r. ⌜ r ≡ site.sideOf p q ⌝ }
+    ensures { λ r. ⌜ r ≡ node.sideOf p q ⌝ }
 {
     if p < q { Side::Right } else { Side::Left }
 }
 
 fn neighbour(side: Side, s: Station) -> Neighbour
-    ensures { λ r. ⌜ r ≡ site.neighbour side s ⌝ }
+    ensures { λ r. ⌜ r ≡ node.neighbour side s ⌝ }
 {
     match side {
         Side::Left => s.left,
@@ -81,22 +72,23 @@ fn neighbour(side: Side, s: Station) -> Neighbour
 }
 
 fn with_neighbour(side: Side, n: Neighbour, s: Station) -> Station
-    ensures { λ r. ⌜ r ≡ site.withNeighbour side n s ⌝ }
+    ensures { λ r. ⌜ r ≡ node.withNeighbour side n s ⌝ }
 {
     let left = s.left;
     let right = s.right;
+    let marks = s.marks;
     match side {
         Side::Left => Station {
             number: s.number,
             left: n,
             right,
-            leaving: s.leaving,
+            marks,
         },
         Side::Right => Station {
             number: s.number,
             left,
             right: n,
-            leaving: s.leaving,
+            marks,
         },
     }
 }
@@ -135,7 +127,8 @@ fn send_to(n: Neighbour, m: Message) -> Sending
 fn notice(p: Station, side: Side) -> Message
     ensures { λ r. ⌜ r ≡ act.notice p side ⌝ }
 {
-    if p.leaving {
+    let marks = p.marks;
+    if marks.leaving {
         removal(opposite(side))
     } else {
         introduction(p.number)
@@ -171,7 +164,7 @@ fn meet(side: Side, p: Station, q: u32, n: Neighbour) -> Reacted
             sending: Sending::Nothing,
         },
         Neighbour::Station(r) => {
-            if beyond(side, q, r) {
+            if side.beyond(q, r) {
                 return Reacted {
                     station: with_neighbour(side, Neighbour::Station(q), p),
                     sending: Sending::To(q, introduction(r)),
@@ -215,8 +208,9 @@ fn drop_neighbour(side: Side, p: Station, n: Neighbour) -> Reacted
 fn obeys(side: Side, p: Station) -> bool
     ensures { λ r. ⌜ r ≡ act.obeys side p ⌝ }
 {
+    let marks = p.marks;
     match side {
-        Side::Left => !p.leaving,
+        Side::Left => !marks.leaving,
         Side::Right => true,
     }
 }
@@ -279,7 +273,7 @@ fn refuse(refusal: Refusal, s: Station) -> Decision
 
 // A delivery, where found says whether the bag holds the message.
 fn deliver(found: bool, s: Station, m: Message) -> Decision
-    ensures { λ r. ⌜ ((alone : Bool) (b : List Message) → found ≡ message.holds m b → Decides alone s b (Action.Deliver m) r) ⌝ }
+    ensures { λ r. ⌜ ((nidecHolds : Bool) (b : List Message) → found ≡ message.holds m b → Decides nidecHolds s b (Action.Deliver m) r) ⌝ }
 {
     if found {
         let content = m.content;
@@ -300,13 +294,14 @@ fn deliver(found: bool, s: Station, m: Message) -> Decision
     refuse(Refusal::NotInBag, s)
 }
 
-fn exit(alone: bool, s: Station) -> Decision
-    ensures { λ r. ⌜ ((b : List Message) → Decides alone s b Action.Exit r) ⌝ }
+fn exit(nidec_holds: bool, s: Station) -> Decision
+    ensures { λ r. ⌜ ((b : List Message) → Decides «nidec_holds» s b Action.Exit r) ⌝ }
 {
-    if !s.leaving {
+    let marks = s.marks;
+    if !marks.leaving {
         return refuse(Refusal::Staying, s);
     }
-    if !alone {
+    if !nidec_holds {
         return refuse(Refusal::Held, s);
     }
     let left = s.left;
@@ -320,10 +315,10 @@ fn exit(alone: bool, s: Station) -> Decision
     }
 }
 
-// A station's part in a step. alone says whether NIDEC holds for it, and is looked at by an exit only; found says whether its bag
+// A station's part in a step. nidec_holds says whether NIDEC holds for it, and is looked at by an exit only; found says whether its bag
 // holds the message to deliver, and is looked at by a delivery only.
-pub fn decide(alone: bool, found: bool, s: Station, action: Action) -> Decision
-    ensures { λ r. ⌜ ((b : List Message) → found ≡ isFound action b → Decides alone s b action r) ⌝ }
+pub fn decide(nidec_holds: bool, found: bool, s: Station, action: Action) -> Decision
+    ensures { λ r. ⌜ ((b : List Message) → found ≡ isFound action b → Decides «nidec_holds» s b action r) ⌝ }
 {
     match action {
         Action::Timeout => {
@@ -336,6 +331,6 @@ pub fn decide(alone: bool, found: bool, s: Station, action: Action) -> Decision
             }
         }
         Action::Deliver(m) => deliver(found, s, m),
-        Action::Exit => exit(alone, s),
+        Action::Exit => exit(nidec_holds, s),
     }
 }

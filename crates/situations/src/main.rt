@@ -1,7 +1,7 @@
 // Step lists run over tables, the thirteen situations of document 01 among them (tests/situations.py makes them). The file cases.bin
 // holds cases: the lengths of a table, of a step list and of a room in four bytes each, then the table and the step list. For each case
 // its place in the file is printed, the listing of its run, and whether the room past the table written is as it was.
-use engine::runs::run;
+use engine::run;
 use libc::STDOUT_FILENO;
 use text::write_listing;
 ghost use Prim.Native.Nat.{_≤_};

@@ -2,7 +2,7 @@
 use Prim.Native.Nat.{ℕ}
 use mathlib.Core.Bool.{cond}
 use mathlib.Core.List.{List}
-use Rattle.engine.specs.Ran.{Outcome}
+use Rattle.finishing.specs.Ended.{Outcome}
 use Rattle.questions.specs.declared.Told.{Told}
 use Rattle.questions.specs.Told.{toldNumber, toldYes}
 use Rattle.view.specs.declared.Looked.{Looked}
@@ -11,8 +11,8 @@ use Rattle.station_line.specs.declared.StationLineTold.{StationLineTold}
 use Rattle.station_line.specs.declared.StationLineViewed.{StationLineViewed}
 
 -- the three numbers, with the room that is left
-abbrev pub said : StationLineRan → List ℕ → Outcome
-said r room = record { answer = r .answer; done = r .done; stations = r .stations; room = room }
+abbrev pub ranAs : StationLineRan → List ℕ → Outcome
+ranAs r room = record { answer = r .answer; done = r .done; stations = r .stations; room = room }
 
 -- the number and the value of a question's answer
 unfoldable pub toldAs : Told → StationLineTold

@@ -1,7 +1,7 @@
 // The C interface (document 01, "The form each place needs": extern "C" run, leave question and line question on byte slices and
 // numbers), with the check and the view beside them. Each function hands its call on and repeats the equality of what it calls. A slice
 // is a pointer and a length in C; the view has offsets in the place of references.
-use engine::runs::run;
+use engine::run;
 use questions::Told;
 use questions::in_line;
 use questions::may_leave;
@@ -13,7 +13,7 @@ ghost use Rattle.table.specs.Fault.{faultOf};
 ghost use Rattle.engine.specs.Ran.{outcome};
 ghost use Rattle.questions.specs.Told.{mayLeave, isInLine};
 ghost use Rattle.view.specs.View.{viewed};
-ghost use Rattle.station_line.specs.Interface.{said, toldAs, viewedAs};
+ghost use Rattle.station_line.specs.Interface.{ranAs, toldAs, viewedAs};
 
 // The number of a run, the steps done and the stations now.
 #[repr(C)]
@@ -49,7 +49,7 @@ pub extern "C" fn station_line_check(table: &[u8]) -> u32
 
 #[no_mangle]
 pub extern "C" fn station_line_run(table: &[u8], steps: &[u8], room: &mut [u8]) -> StationLineRan
-    ensures { λ r. ⌜ said r (now (room .exit)) ≡ outcome (now (table .entry)) (now (steps .entry)) (now (room .entry)) ⌝ }
+    ensures { λ r. ⌜ ranAs r (now (room .exit)) ≡ outcome (now (table .entry)) (now (steps .entry)) (now (room .entry)) ⌝ }
 {
     let ran = run(table, steps, room);
     StationLineRan {

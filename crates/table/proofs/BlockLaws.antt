@@ -1,36 +1,24 @@
 -- The blocks of a table one by one: block k is the bytes from 512 k on, and the blocks from k on are block k and those behind it.
 use mathlib.Core.Path.{_≡_, refl, sym, ap, _∙_}
-use mathlib.Core.List.{List, [], _∷_, _++_, map, Memᴰ·cast, List·Memᴰ as Member}
-use Prim.Native.Nat.{ℕ, zero, suc, _+_, _-_, _*_, _/_, _≤_, _<_}
-use native.Mathlib.Nat.{le-of-suc-le-suc, not-suc-le-zero}
+use mathlib.Core.List.{List, [], _∷_, _++_, Memᴰ·cast, List·Memᴰ as Member}
+use Prim.Native.Nat.{ℕ, suc, _+_, _-_, _*_, _/_, _≤_, _<_}
 use native.Mathlib.Omega.{arith}
 use lib.ListN.{length, getD, take, drop, length-append, length-map, length-drop, drop-of-length-le, List·getD-map}
 use lib.Seq.{length-take-le, take-at, drop-append-add, getD-take, getD-drop}
 use Rattle.octets.specs.Bytes.{quad}
-use Rattle.octets.proofs.Cuts.{drop-one}
-use Rattle.block.specs.Layout.{siteOf}
-use Rattle.table.specs.Blocks.{range, blockAt, blocks, sites}
-use Rattle.table.proofs.NumberLaws.{member-at}
-
-pub range-length : (a n : ℕ) → length (range a n) ≡ n
-unfolding range
-range-length a zero = refl
-range-length a (suc n) = ap suc (range-length (suc a) n)
-
-pub range-at : (a n k : ℕ) → k < n → getD (range a n) k 0 ≡ a + k
-unfolding range
-range-at a zero k h = absurd (not-suc-le-zero h)
-range-at a (suc n) zero h = omega arith
-range-at a (suc n) (suc k) h = omega (arith, range-at (suc a) n k (le-of-suc-le-suc h))
+use Rattle.lists.proofs.Elements.{drop-one, member-at, range-at, range-length, range-shifted}
+use Rattle.block.specs.Layout.{nodeOf}
+use Rattle.lists.specs.Places.{range}
+use Rattle.table.specs.Blocks.{blockAt, blocks, nodes}
 
 module _ (t : List ℕ) where
   pub blocks-length : length (blocks t) ≡ length t / 512
   unfolding blocks
   blocks-length = length-map (range 0 (length t / 512)) (blockAt t) ∙ range-length 0 (length t / 512)
 
-  pub sites-length : length (sites t) ≡ length t / 512
-  unfolding sites
-  sites-length = length-map (blocks t) siteOf ∙ blocks-length
+  pub nodes-length : length (nodes t) ≡ length t / 512
+  unfolding nodes
+  nodes-length = length-map (blocks t) nodeOf ∙ blocks-length
 
 module _ (t : List ℕ) (k : ℕ) (h : k < length t / 512) where
   pub block-at : getD (blocks t) k (blockAt t 0) ≡ blockAt t k
@@ -75,11 +63,6 @@ unfolding blocks range
 blocks-none = refl
 
 -- A block in front of a table: its blocks are that block and the blocks of the rest.
-range-shifted : {A : Type 0} (f g : ℕ → A) → ((k : ℕ) → f (suc k) ≡ g k) → (a n : ℕ) → map f (range (suc a) n) ≡ map g (range a n)
-unfolding range
-range-shifted f g h a zero = refl
-range-shifted f g h a (suc n) = rw (h a, range-shifted f g h (suc a) n)
-
 module _ (b t : List ℕ) (h : length b ≡ 512) where
   block-first : blockAt (b ++ t) 0 ≡ b
   unfolding blockAt

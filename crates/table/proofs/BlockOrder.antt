@@ -11,14 +11,14 @@ use Rattle.line.specs.declared.Neighbour.the-variants.{None, Station}
 use Rattle.line.specs.declared.Content.{Content}
 use Rattle.line.specs.declared.Content.the-variants.{Introduction, RemoveLeft, RemoveRight}
 use Rattle.line.specs.declared.Message.{Message}
-use Rattle.line.specs.Lists.{all, any, count}
-use Rattle.line.specs.Site.{Site, Line, number, numbers}
+use Rattle.lists.specs.Lists.{all, any, count}
+use Rattle.line.specs.Node.{Node, Line, number, numbers}
 use Rattle.line.specs.Accepted.{hasSides, isPresent, knowsNeighbour, knowsContent, namesPresent}
-use Rattle.block.specs.Layout.{checkHolds, fieldsHold, siteOf}
-use Rattle.table.specs.Blocks.{sites}
+use Rattle.block.specs.Layout.{checkHolds, fieldsHold, nodeOf}
+use Rattle.table.specs.Blocks.{nodes}
 use Rattle.table.specs.Fault.{firstFailing, faultOf}
 use Rattle.table.specs.Claims.{Reordered, empty, keep, swap, through, BlockOrderFree}
-use Rattle.table.proofs.DistinctLaws.{distinct-counted}
+use Rattle.lists.proofs.Distinct.{distinct-counted}
 
 module _ {X : Type 0} (step : List ℕ → X → X) (h : List (List ℕ) → X)
     (turns : (b c : List ℕ) (x : X) → step b (step c x) ≡ step c (step b x)) (next : (b : List ℕ) (l : List (List ℕ)) → h (b ∷ l) ≡ step b (h l)) where
@@ -39,24 +39,24 @@ or-turns true true c = refl
 or-turns true false c = refl
 
 module _ {l r : List (List ℕ)} (p : Reordered l r) where
-  -- a test of every block, of every site; how often a number stands there; whether it does
+  -- a test of every block, of every node; how often a number stands there; whether it does
   all-blocks : (f : List ℕ → Bool) → all f l ≡ all f r
   unfolding all
   all-blocks f = reordered (λ b x. f b && x) (all f) (λ b c x. and-turns (f b) (f c) x) (λ b k. refl) p
 
-  all-sites : (f : Site → Bool) → all f (map siteOf l) ≡ all f (map siteOf r)
+  all-nodes : (f : Node → Bool) → all f (map nodeOf l) ≡ all f (map nodeOf r)
   unfolding all
-  all-sites f = reordered (λ b x. f (siteOf b) && x) (λ k. all f (map siteOf k)) (λ b c x. and-turns (f (siteOf b)) (f (siteOf c)) x) (λ b k. refl) p
+  all-nodes f = reordered (λ b x. f (nodeOf b) && x) (λ k. all f (map nodeOf k)) (λ b c x. and-turns (f (nodeOf b)) (f (nodeOf c)) x) (λ b k. refl) p
 
-  count-numbers : (n : ℕ) → count (eqb n) (numbers (map siteOf l)) ≡ count (eqb n) (numbers (map siteOf r))
+  count-numbers : (n : ℕ) → count (eqb n) (numbers (map nodeOf l)) ≡ count (eqb n) (numbers (map nodeOf r))
   unfolding count
-  count-numbers n = reordered (λ b x. cond (eqb n (number (siteOf b))) 1 0 + x) (λ k. count (eqb n) (numbers (map siteOf k))) (λ b c x. omega arith) (λ b k. refl) p
+  count-numbers n = reordered (λ b x. cond (eqb n (number (nodeOf b))) 1 0 + x) (λ k. count (eqb n) (numbers (map nodeOf k))) (λ b c x. omega arith) (λ b k. refl) p
 
-  same-present : (n : ℕ) → isPresent (map siteOf l) n ≡ isPresent (map siteOf r) n
+  same-present : (n : ℕ) → isPresent (map nodeOf l) n ≡ isPresent (map nodeOf r) n
   unfolding isPresent any
-  same-present n = reordered (λ b x. eqb n (number (siteOf b)) || x) (λ k. isPresent (map siteOf k) n) (λ b c x. or-turns (eqb n (number (siteOf b))) (eqb n (number (siteOf c))) x) (λ b k. refl) p
+  same-present n = reordered (λ b x. eqb n (number (nodeOf b)) || x) (λ k. isPresent (map nodeOf k) n) (λ b c x. or-turns (eqb n (number (nodeOf b))) (eqb n (number (nodeOf c))) x) (λ b k. refl) p
 
--- what a site names is present in one line exactly when it is in another with the same numbers
+-- what a node names is present in one line exactly when it is in another with the same numbers
 all-same : {A : Type 0} (f g : A → Bool) → ((x : A) → f x ≡ g x) → (l : List A) → all f l ≡ all g l
 unfolding all
 all-same f g h [] = refl
@@ -74,16 +74,16 @@ module _ (a b : Line) (h : (n : ℕ) → isPresent a n ≡ isPresent b n) where
   same-content RemoveLeft = refl
   same-content RemoveRight = refl
 
-  same-names : (s : Site) → namesPresent a s ≡ namesPresent b s
+  same-names : (s : Node) → namesPresent a s ≡ namesPresent b s
   unfolding namesPresent
   same-names s =
       let bags = all-same (λ (m : Message). knowsContent a (m .content)) (λ (m : Message). knowsContent b (m .content)) (λ m. same-content (m .content)) (s .bag) in
       rw (same-neighbour (s .station .left), same-neighbour (s .station .right), bags)
 
 pub block-order-free : BlockOrderFree
-unfolding faultOf firstFailing sites
+unfolding faultOf firstFailing nodes
 block-order-free t u e p =
     let names =
-    all-same (namesPresent (sites t)) (namesPresent (sites u)) (same-names (sites t) (sites u) (same-present p)) (sites t)
-    ∙ all-sites p (namesPresent (sites u)) in
-    rw (e, all-blocks p checkHolds, all-blocks p fieldsHold, all-sites p hasSides, distinct-counted (numbers (sites t)) (numbers (sites u)) (count-numbers p), names)
+    all-same (namesPresent (nodes t)) (namesPresent (nodes u)) (same-names (nodes t) (nodes u) (same-present p)) (nodes t)
+    ∙ all-nodes p (namesPresent (nodes u)) in
+    rw (e, all-blocks p checkHolds, all-blocks p fieldsHold, all-nodes p hasSides, distinct-counted (numbers (nodes t)) (numbers (nodes u)) (count-numbers p), names)

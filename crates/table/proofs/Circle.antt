@@ -9,29 +9,31 @@ use lib.Dec.{ltb}
 use lib.ListN.{length, getD, take, drop, length-append, length-take, length-drop, take-append-drop, List·getD-eq-default}
 use lib.Seq.{length-take-le, getD-take, getD-drop}
 use borrow.Author.Tests.{eqb-true, eq-eqb, le-leb, ltb-true, ltb-false}
-use Rattle.line.specs.Lists.{all}
-use Rattle.line.specs.Site.{Site, Line, numbers, Present}
+use Rattle.lists.specs.Lists.{all}
+use Rattle.line.specs.Node.{Node, Line, numbers, Present}
 use Rattle.line.specs.Links.{by-neighbour, by-introduction}
 use Rattle.line.specs.Accepted.{Accepted, hasSides, namesPresent}
-use Rattle.line.proofs.Lists.{true-all, map-mem, map-self}
-use Rattle.line.proofs.AcceptedTest.{has-sides, are-distinct, names-present}
-use Rattle.line.proofs.Whole.{site-of}
+use Rattle.lists.proofs.Lists.{true-all, map-mem, map-self}
+use Rattle.line.proofs.AcceptedTest.{has-sides, names-present}
+use Rattle.lists.proofs.Distinct.{are-distinct}
+use Rattle.line.proofs.Changes.{node-of}
 use Rattle.line.proofs.WrittenOrder.{written-order-stays}
 use Rattle.octets.specs.Bytes.{AreBytes}
-use Rattle.block.specs.Layout.{checkHolds, fieldsHold, siteOf, encode}
-use Rattle.block.specs.Claims.{Ranged, Writable}
+use Rattle.block.specs.Layout.{checkHolds, fieldsHold, nodeOf}
+use Rattle.writing.specs.Encoding.{encode}
+use Rattle.writing.specs.Claims.{Ranged, Writable}
 use Rattle.block.proofs.FieldLaws.{no-fault}
-use Rattle.block.proofs.ReadBack.{written-length, written-reads-back}
-use Rattle.block.proofs.Rewritten.{rewritten-same as same-block}
+use Rattle.writing.proofs.ReadBack.{written-length, written-reads-back}
+use Rattle.writing.proofs.Rewritten.{rewritten-same as same-block}
 use Rattle.block.specs.Layout as block
-use Rattle.table.specs.Blocks.{blocks, sites, lineOf, bytesOf}
+use Rattle.table.specs.Blocks.{blocks, nodes, lineOf, bytesOf}
 use Rattle.table.specs.Claims.{WrittenAccepted, RewrittenSame}
 use Rattle.table.proofs.BlockLaws.{blocks-none, blocks-cons}
 use Rattle.table.proofs.FaultLaws.{no-fault-of, Passes, accepted-passes, passes-accepted, passes-clean}
 
--- The table of a line, site by site.
+-- The table of a line, node by node.
 abbrev Blocks512 : Line → Type 0
-Blocks512 line = (s : Site) → Member s line → length (encode s) ≡ 512
+Blocks512 line = (s : Node) → Member s line → length (encode s) ≡ 512
 
 bytes-length : (line : Line) → Blocks512 line → length (bytesOf line) ≡ 512 * length line
 unfolding bytesOf
@@ -43,16 +45,17 @@ unfolding bytesOf
 written-blocks [] h = blocks-none
 written-blocks (s ∷ line) h = blocks-cons (encode s) (bytesOf line) (h s (here refl)) ∙ ap (λ (l : List (List ℕ)). encode s ∷ l) (written-blocks line (λ x m. h x (there m)))
 
--- An accepted line names stations with a block alone, whose numbers are in range; so every site of it can be written.
+-- An accepted line names stations with a block alone, whose numbers are in range; so every node of it can be written.
 module _ (line : Line) (a : Accepted line) where
   present-ranged : (q : ℕ) → Present line q → Ranged q
-  present-ranged q m = let w = site-of line m in rw (w .2) (a .ranged (w .0) (w .1))
+  present-ranged q m = let w = node-of line m in rw (w .2) (a .ranged (w .0) (w .1))
 
-  writable : (s : Site) → Member s line → Writable s
+  writable : (s : Node) → Member s line → Writable s
   writable s m = record {
     numbered = a .ranged s m;
     neighbours = λ d q e. present-ranged q (a .known s m q (by-neighbour d e));
     introduced = λ q k. present-ranged q (a .known s m q (by-introduction k));
+    marked = a .marked s m;
     small = a .small s m;
     sided = has-sides s .1 (a .sided s m);
   }
@@ -60,12 +63,12 @@ module _ (line : Line) (a : Accepted line) where
   full : Blocks512 line
   full s m = written-length s (a .small s m)
 
-  read-back : sites (bytesOf line) ≡ line
-  unfolding sites
+  read-back : nodes (bytesOf line) ≡ line
+  unfolding nodes
   read-back =
-      ap (map siteOf) (written-blocks line full)
-      ∙ map-map siteOf encode line
-      ∙ map-self (λ (s : Site). siteOf (encode s)) line (λ s m. written-reads-back s (writable s m) .1)
+      ap (map nodeOf) (written-blocks line full)
+      ∙ map-map nodeOf encode line
+      ∙ map-self (λ (s : Node). nodeOf (encode s)) line (λ s m. written-reads-back s (writable s m) .1)
 
   -- a test that every block without a fault passes
   every-block : (f : List ℕ → Bool) → ((b : List ℕ) → block.faultOf b ≡ 0 → f b ≡ true) → all f (blocks (bytesOf line)) ≡ true
@@ -102,8 +105,8 @@ bytes-take t n h i = go (ltb i n) refl
     go true e = rw (getD-take n t i 0 (ltb-true i n e)) (h i)
     go false e = rw (List·getD-eq-default (take n t) 0 {n = i} (omega (arith, length-take n t, ltb-false i n e))) (omega arith)
 
-rewritten : (n : ℕ) (t : List ℕ) → length t ≡ 512 * n → AreBytes t → ((b : List ℕ) → Member b (blocks t) → block.faultOf b ≡ 0) → bytesOf (sites t) ≡ t
-unfolding sites bytesOf
+rewritten : (n : ℕ) (t : List ℕ) → length t ≡ 512 * n → AreBytes t → ((b : List ℕ) → Member b (blocks t) → block.faultOf b ≡ 0) → bytesOf (nodes t) ≡ t
+unfolding nodes bytesOf
 rewritten zero [] e h f = rw blocks-none
 rewritten zero (x ∷ t) e h f = absurd (omega arith)
 rewritten (suc n) t e h f =
@@ -120,4 +123,4 @@ unfolding lineOf
 rewritten-same t h e w =
     let p = accepted-passes t e in
     let whole = eqb-true (length t % 512) 0 (p .whole) in
-    rw (written-order-stays (sites t) w) (rewritten (length t / 512) t (omega arith) h (λ b m. no-fault-of (blocks t) (passes-clean t p) m))
+    rw (written-order-stays (nodes t) w) (rewritten (length t / 512) t (omega arith) h (λ b m. no-fault-of (blocks t) (passes-clean t p) m))

@@ -7,12 +7,13 @@ use native.Mathlib.Omega.{arith}
 use lib.Dec.{eqb, leb, ltb}
 use lib.ListN.{length}
 use borrow.Author.Tests.{eqb-true, eqb-false}
-use Rattle.line.specs.Lists.{all}
-use Rattle.line.specs.Site.{numbers}
-use Rattle.line.specs.Accepted.{hasSides, areDistinct, namesPresent}
-use Rattle.block.specs.Layout.{checkHolds, fieldsHold, siteOf}
+use Rattle.lists.specs.Lists.{all}
+use Rattle.line.specs.Node.{numbers}
+use Rattle.line.specs.Accepted.{hasSides, namesPresent}
+use Rattle.lists.specs.Numbers.{areDistinct}
+use Rattle.block.specs.Layout.{checkHolds, fieldsHold, nodeOf}
 use Rattle.block.specs.Layout as block
-use Rattle.table.specs.Blocks.{blocks, sites}
+use Rattle.table.specs.Blocks.{blocks, nodes}
 use Rattle.table.specs.Fault.{firstFailing, faultOf}
 use Rattle.table.specs.Smallest.{smaller, smallest, stationsFault}
 
@@ -37,12 +38,12 @@ pick-both false t u true true false = refl
 pick-both false t u true false z = refl
 pick-both false t u false y z = refl
 
-smallest-tests : (l : List (List ℕ)) → smallest l ≡ pick (all checkHolds l) (all fieldsHold l) (all hasSides (map siteOf l))
+smallest-tests : (l : List (List ℕ)) → smallest l ≡ pick (all checkHolds l) (all fieldsHold l) (all hasSides (map nodeOf l))
 unfolding smallest all block.faultOf
 smallest-tests [] = refl
 smallest-tests (b ∷ l) =
     ap (smaller (block.faultOf b)) (smallest-tests l)
-    ∙ pick-both (checkHolds b) (fieldsHold b) (hasSides (siteOf b)) (all checkHolds l) (all fieldsHold l) (all hasSides (map siteOf l))
+    ∙ pick-both (checkHolds b) (fieldsHold b) (hasSides (nodeOf b)) (all checkHolds l) (all fieldsHold l) (all hasSides (map nodeOf l))
 
 -- what is left once the three are settled
 settled : (s t u : Bool) (rest : ℕ) → cond s (cond t (cond u rest 5) 4) 3 ≡ cond (eqb (pick s t u) 0) rest (pick s t u)
@@ -52,14 +53,14 @@ settled true false u rest = refl
 settled false t u rest = refl
 
 -- the fault of a table in the order in which the check looks
-pub fault-parts : (t : List ℕ) → faultOf t ≡ cond (eqb (length t % 512) 0) (cond (leb (length t / 512) 64) (cond (eqb (smallest (blocks t)) 0) (stationsFault (sites t)) (smallest (blocks t))) 2) 1
-unfolding faultOf firstFailing stationsFault sites
+pub fault-parts : (t : List ℕ) → faultOf t ≡ cond (eqb (length t % 512) 0) (cond (leb (length t / 512) 64) (cond (eqb (smallest (blocks t)) 0) (stationsFault (nodes t)) (smallest (blocks t))) 2) 1
+unfolding faultOf firstFailing stationsFault nodes
 fault-parts t =
     let s = all checkHolds (blocks t) in
     let u = all fieldsHold (blocks t) in
-    let v = all hasSides (map siteOf (blocks t)) in
+    let v = all hasSides (map nodeOf (blocks t)) in
     ap (λ (n : ℕ). cond (eqb (length t % 512) 0) (cond (leb (length t / 512) 64) n 2) 1)
-    (settled s u v (stationsFault (sites t)) ∙ ap (λ (n : ℕ). cond (eqb n 0) (stationsFault (sites t)) n) (sym (smallest-tests (blocks t))))
+    (settled s u v (stationsFault (nodes t)) ∙ ap (λ (n : ℕ). cond (eqb n 0) (stationsFault (nodes t)) n) (sym (smallest-tests (blocks t))))
 
 -- no fault is the smallest where no block has one
 smaller-none : (a b : ℕ) → smaller a b ≡ 0 → (a ≡ 0) × (b ≡ 0)
@@ -83,9 +84,9 @@ pub record Passes (t : List ℕ) : Type 0 where
   pub few : leb (length t / 512) 64 ≡ true
   pub checks : all checkHolds (blocks t) ≡ true
   pub fields : all fieldsHold (blocks t) ≡ true
-  pub sides : all hasSides (sites t) ≡ true
-  pub distinct : areDistinct (numbers (sites t)) ≡ true
-  pub names : all (namesPresent (sites t)) (sites t) ≡ true
+  pub sides : all hasSides (nodes t) ≡ true
+  pub distinct : areDistinct (numbers (nodes t)) ≡ true
+  pub names : all (namesPresent (nodes t)) (nodes t) ≡ true
 
 none-failing : (b : Bool) (n rest : ℕ) → cond b rest (suc n) ≡ 0 → (b ≡ true) × (rest ≡ 0)
 none-failing true n rest h = (refl, h)
@@ -98,9 +99,9 @@ accepted-passes t h =
     let b = none-failing (leb (length t / 512) 64) 1 _ (a .1) in
     let c = none-failing (all checkHolds (blocks t)) 2 _ (b .1) in
     let d = none-failing (all fieldsHold (blocks t)) 3 _ (c .1) in
-    let e = none-failing (all hasSides (sites t)) 4 _ (d .1) in
-    let f = none-failing (areDistinct (numbers (sites t))) 5 _ (e .1) in
-    let g = none-failing (all (namesPresent (sites t)) (sites t)) 6 0 (f .1) in
+    let e = none-failing (all hasSides (nodes t)) 4 _ (d .1) in
+    let f = none-failing (areDistinct (numbers (nodes t))) 5 _ (e .1) in
+    let g = none-failing (all (namesPresent (nodes t)) (nodes t)) 6 0 (f .1) in
     record { whole = a .0; few = b .0; checks = c .0; fields = d .0; sides = e .0; distinct = f .0; names = g .0 }
 
 pub passes-accepted : (t : List ℕ) → Passes t → faultOf t ≡ 0
@@ -108,5 +109,5 @@ unfolding faultOf firstFailing
 passes-accepted t p = rw (p .whole, p .few, p .checks, p .fields, p .sides, p .distinct, p .names)
 
 pub passes-clean : (t : List ℕ) → Passes t → smallest (blocks t) ≡ 0
-unfolding sites
+unfolding nodes
 passes-clean t p = smallest-tests (blocks t) ∙ rw (p .checks, p .fields, p .sides)

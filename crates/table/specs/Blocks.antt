@@ -1,14 +1,11 @@
 -- The blocks of a table, the stations that they hold, and the table of a line (document 01, "The block").
-use Prim.Native.Nat.{ℕ, zero, suc, _+_, _*_, _/_}
+use Prim.Native.Nat.{ℕ, _*_, _/_}
 use mathlib.Core.List.{List, [], _∷_, _++_, map}
 use lib.ListN.{length, take, drop}
-use Rattle.line.specs.Site.{Site, Line, inWrittenOrder}
-use Rattle.block.specs.Layout.{siteOf, encode}
-
--- n numbers from k on
-unfoldable pub range : ℕ → ℕ → List ℕ
-range k zero = []
-range k (suc n) = k ∷ range (suc k) n
+use Rattle.lists.specs.Places.{range}
+use Rattle.line.specs.Node.{Line, inWrittenOrder}
+use Rattle.block.specs.Layout.{nodeOf}
+use Rattle.writing.specs.Encoding.{encode}
 
 -- "A table is a run of 512-byte blocks, one per station."
 unfoldable pub blockAt : List ℕ → ℕ → List ℕ
@@ -18,12 +15,12 @@ unfoldable pub blocks : List ℕ → List (List ℕ)
 blocks t = map (blockAt t) (range 0 (length t / 512))
 
 -- the stations of a table in stored order
-unfoldable pub sites : List ℕ → Line
-sites t = map siteOf (blocks t)
+unfoldable pub nodes : List ℕ → Line
+nodes t = map nodeOf (blocks t)
 
 -- "Reading takes blocks and messages in any order."
 unfoldable pub lineOf : List ℕ → Line
-lineOf t = inWrittenOrder (sites t)
+lineOf t = inWrittenOrder (nodes t)
 
 -- "Writing is in one order only": the blocks of a line, one after another
 unfoldable pub bytesOf : Line → List ℕ

@@ -4,11 +4,12 @@ use mathlib.Core.Bool.{Bool, cond}
 use mathlib.Core.List.{List, [], _∷_}
 use lib.Dec.{eqb, leb}
 use lib.ListN.{length}
-use Rattle.line.specs.Lists.{all}
-use Rattle.line.specs.Site.{numbers}
-use Rattle.line.specs.Accepted.{hasSides, areDistinct, namesPresent}
+use Rattle.lists.specs.Lists.{all}
+use Rattle.line.specs.Node.{numbers}
+use Rattle.line.specs.Accepted.{hasSides, namesPresent}
+use Rattle.lists.specs.Numbers.{areDistinct}
 use Rattle.block.specs.Layout.{checkHolds, fieldsHold}
-use Rattle.table.specs.Blocks.{blocks, sites}
+use Rattle.table.specs.Blocks.{blocks, nodes}
 
 -- a number, and whether what it stands for is in order
 pub record Test : Type 0 where
@@ -28,7 +29,7 @@ faultOf t =
     ∷ record { number = 2; holds = leb (length t / 512) 64 }
     ∷ record { number = 3; holds = all checkHolds (blocks t) }
     ∷ record { number = 4; holds = all fieldsHold (blocks t) }
-    ∷ record { number = 5; holds = all hasSides (sites t) }
-    ∷ record { number = 6; holds = areDistinct (numbers (sites t)) }
-    ∷ record { number = 7; holds = all (namesPresent (sites t)) (sites t) }
+    ∷ record { number = 5; holds = all hasSides (nodes t) }
+    ∷ record { number = 6; holds = areDistinct (numbers (nodes t)) }
+    ∷ record { number = 7; holds = all (namesPresent (nodes t)) (nodes t) }
     ∷ [])

@@ -2,5 +2,5 @@
 pub mod Blocks
 pub mod Fault
 pub mod Smallest
-pub mod Numbers
+pub mod Index
 pub mod Claims

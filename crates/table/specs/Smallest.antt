@@ -3,9 +3,10 @@ use Prim.Native.Nat.{ℕ}
 use mathlib.Core.Bool.{cond}
 use mathlib.Core.List.{List, [], _∷_}
 use lib.Dec.{eqb, ltb}
-use Rattle.line.specs.Lists.{all}
-use Rattle.line.specs.Site.{Line, numbers}
-use Rattle.line.specs.Accepted.{areDistinct, namesPresent}
+use Rattle.lists.specs.Lists.{all}
+use Rattle.line.specs.Node.{Line, numbers}
+use Rattle.lists.specs.Numbers.{areDistinct}
+use Rattle.line.specs.Accepted.{namesPresent}
 use Rattle.block.specs.Layout.{faultOf}
 
 -- the smaller of two faults, where 0 is none

@@ -1,5 +1,4 @@
 -- Laws that belong to no one function.
-pub mod Digits
-pub mod Written
 pub mod Lines
+pub mod Blocks
 pub mod Example

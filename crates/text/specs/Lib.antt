@@ -1,4 +1,3 @@
 -- What a reader must believe of the printed listing, in reading order.
 pub mod Listing
-pub mod Writing
 pub mod Claims

@@ -1,67 +1,15 @@
 -- The printed listing, byte by byte (document 01, "The printed listing").
-use Prim.Native.Nat.{ℕ, zero, suc, _+_, _/_, _%_}
-use Prim.Native.Char.{code}
-use Prim.Native.String.{String, [] as end, _∷_ as _then_}
+use Prim.Native.Nat.{ℕ}
 use mathlib.Core.Bool.{Bool, cond, _&&_, _||_}
 use mathlib.Core.List.{List, [], _∷_, _++_, map}
-use lib.Dec.{eqb, leb, ltb}
-use Rattle.line.specs.declared.Neighbour.{Neighbour}
-use Rattle.line.specs.declared.Neighbour.the-variants.{None, Station}
-use Rattle.line.specs.declared.Content.{Content}
-use Rattle.line.specs.declared.Content.the-variants.{Introduction, RemoveLeft, RemoveRight}
-use Rattle.line.specs.declared.Message.{Message}
-use Rattle.line.specs.Site.{Site, Line, number, leaving}
-
--- a word in ASCII, letter by letter
-abbrev pub ascii : String → List ℕ
-ascii end = []
-ascii (c then word) = code c ∷ ascii word
-
--- the digit of a number below 10
-abbrev pub digit : ℕ → ℕ
-digit d = code "0" + d
-
--- "the number", in decimal: below 10 its one digit, else the digits of its tenth part and then its last digit. `most` bounds how many
--- digits there are.
-unfoldable pub digits : ℕ → ℕ → List ℕ
-digits zero n = []
-digits (suc most) n =
-    let longer = digits most (n / 10) ++ (digit (n % 10) ∷ []) in
-    cond (ltb n 10) (digit n ∷ []) longer
-
--- no number n has more than n + 1 digits
-unfoldable pub decimal : ℕ → List ℕ
-decimal n = digits (suc n) n
-
--- "left, right (`-` for none)"
-unfoldable pub neighbourText : Neighbour → List ℕ
-neighbourText None = ascii "-"
-neighbourText (Station n) = decimal n
-
--- "`stay` or `leave`"
-unfoldable pub markText : Bool → List ℕ
-markText leaves = cond leaves (ascii "leave") (ascii "stay")
-
--- "messages as `i` with the number, `l` or `r`"
-unfoldable pub contentText : Content → List ℕ
-contentText (Introduction n) = ascii "i" ++ decimal n
-contentText RemoveLeft = ascii "l"
-contentText RemoveRight = ascii "r"
-
-abbrev pub messageText : Message → List ℕ
-messageText m = contentText (m .content)
+use lib.Dec.{eqb, leb}
+use Rattle.line.specs.declared.Station as declared
+use Rattle.line.specs.Node.{Node, Line}
+use Rattle.words.specs.Words.{ascii, decimal, neighbourText, markText, messageText, parted, lineFeed}
 
 -- "Words are parted by one space and each line ends with LF."
-abbrev pub space : ℕ
-space = 32
-
-abbrev pub lineFeed : ℕ
-lineFeed = 10
-
 unfoldable pub lineText : List (List ℕ) → List ℕ
-lineText [] = lineFeed ∷ []
-lineText (w ∷ []) = w ++ (lineFeed ∷ [])
-lineText (w ∷ v ∷ words) = w ++ (space ∷ lineText (v ∷ words))
+lineText words = parted words ++ (lineFeed ∷ [])
 
 -- "First line: `answer`, the number, `done`, steps done, `stations`, stations."
 unfoldable pub headText : ℕ → ℕ → ℕ → List ℕ
@@ -69,14 +17,11 @@ headText answer done stations = lineText (ascii "answer" ∷ decimal answer ∷ 
 
 -- "a line per station: number, left, right (`-` for none), `stay` or `leave`, then messages [..] in written order": those of a bag that is
 -- in that order
-unfoldable pub stationText : Site → List ℕ
-stationText s =
-    lineText
-    (decimal (number s)
-    ∷ neighbourText (s .station .left)
-    ∷ neighbourText (s .station .right)
-    ∷ markText (leaving s)
-    ∷ map messageText (s .bag))
+unfoldable pub stationWords : declared.Station → List (List ℕ)
+stationWords s = decimal (s .number) ∷ neighbourText (s .left) ∷ neighbourText (s .right) ∷ markText (s .marks) ∷ []
+
+unfoldable pub stationText : Node → List ℕ
+stationText s = lineText (stationWords (s .station) ++ map messageText (s .bag))
 
 -- "there follows a line per station"
 unfoldable pub stationsText : Line → List ℕ

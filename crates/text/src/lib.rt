@@ -1,29 +1,18 @@
 // The printed listing as bytes (document 01, "The printed listing").
 mod stations;
-mod words;
 
 use stations::put_line;
 use words::put;
-use words::put_number;
-use words::put_word;
+use words::put_named;
 ghost use mathlib.Core.Path.{_≡_};
 ghost use mathlib.Core.Bool.{true};
 ghost use mathlib.Core.List.{_++_};
 ghost use Prim.Native.Nat.{_+_, _*_, _/_, _≤_};
 ghost use lib.ListN.{length, take, drop};
-ghost use Rattle.table.specs.Blocks.{sites};
+ghost use Rattle.table.specs.Blocks.{nodes};
 ghost use Rattle.table.specs.Fault.{faultOf};
-ghost use Rattle.text.specs.Listing.{decimal, headText, stationsText, printsStations, listingText};
-ghost use Rattle.text.specs.Writing.{Wrote};
-
-// A word and a number behind it.
-fn put_named(out: &mut [u8], at: usize, word: &[u8], n: u32) -> usize
-    requires { ⌜ at + length (now word) + 10 ≤ length (now out) ⌝ }
-    ensures { λ r. ⌜ Wrote (now (out .entry)) at (now (word .entry) ++ decimal n) r (now (out .exit)) × (r ≤ at + length (now (word .entry)) + 10) ⌝ }
-{
-    let next = put_word(out, at, word);
-    put_number(out, next, n)
-}
+ghost use Rattle.words.specs.Writing.{Wrote};
+ghost use Rattle.text.specs.Listing.{headText, stationsText, printsStations, listingText};
 
 // "First line: `answer`, the number, `done`, steps done, `stations`, stations."
 fn put_head(out: &mut [u8], answer: u32, done: u32, stations: u32) -> usize
@@ -46,7 +35,7 @@ fn prints_stations(answer: u32) -> bool
 // A line for each block of a table without a fault, in stored order.
 fn put_lines(out: &mut [u8], at: usize, table: &[u8]) -> usize
     requires { ⌜ (faultOf (now table) ≡ 0) × (at + 423 * (length (now table) / 512) ≤ length (now out)) ⌝ }
-    ensures { λ r. ⌜ Wrote (now (out .entry)) at (stationsText (sites (now (table .entry)))) r (now (out .exit)) × (r ≤ at + 423 * (length (now (table .entry)) / 512)) ⌝ }
+    ensures { λ r. ⌜ Wrote (now (out .entry)) at (stationsText (nodes (now (table .entry)))) r (now (out .exit)) × (r ≤ at + 423 * (length (now (table .entry)) / 512)) ⌝ }
 {
     let n = table.len() / 512;
     let mut end = at;
@@ -60,17 +49,26 @@ fn put_lines(out: &mut [u8], at: usize, table: &[u8]) -> usize
     end
 }
 
-// The listing of a run's answer, its two counts and the table that it left. Where the stations are printed that table has no fault, and
-// so at most 64 blocks; else it plays no part. The amount filled is returned; room past it is not touched.
-pub fn write_listing(out: &mut [u8], answer: u32, done: u32, stations: u32, table: &[u8]) -> usize
+// The first line, and the lines of the stations where the answer prints them.
+fn put_listing(out: &mut [u8], answer: u32, done: u32, stations: u32, table: &[u8]) -> usize
     requires { ⌜ 40000 ≤ length (now out) ⌝ }
     requires { ⌜ (printsStations answer ≡ true → faultOf (now table) ≡ 0) ⌝ }
-    ensures { λ r. ⌜ (r ≡ length (listingText answer done stations (sites (now (table .entry))))) × (now (out .exit) ≡ listingText answer done stations (sites (now (table .entry))) ++ drop r (now (out .entry))) ⌝ }
-    ensures { λ r. ⌜ (r ≤ length (now (out .exit))) × (r ≡ length (take r (now (out .exit)))) ⌝ }
+    ensures { λ r. ⌜ Wrote (now (out .entry)) 0 (listingText answer done stations (nodes (now (table .entry)))) r (now (out .exit)) ⌝ }
 {
     let end = put_head(out, answer, done, stations);
     if prints_stations(answer) {
         return put_lines(out, end, table);
     }
     end
+}
+
+// The listing of a run's answer, its two counts and the table that it left. Where the stations are printed that table has no fault, and
+// so at most 64 blocks; else it plays no part. The amount filled is returned; room past it is not touched.
+pub fn write_listing(out: &mut [u8], answer: u32, done: u32, stations: u32, table: &[u8]) -> usize
+    requires { ⌜ 40000 ≤ length (now out) ⌝ }
+    requires { ⌜ (printsStations answer ≡ true → faultOf (now table) ≡ 0) ⌝ }
+    ensures { λ r. ⌜ (r ≡ length (listingText answer done stations (nodes (now (table .entry))))) × (now (out .exit) ≡ listingText answer done stations (nodes (now (table .entry))) ++ drop r (now (out .entry))) ⌝ }
+    ensures { λ r. ⌜ (r ≤ length (now (out .exit))) × (r ≡ length (take r (now (out .exit)))) ⌝ }
+{
+    put_listing(out, answer, done, stations, table)
 }

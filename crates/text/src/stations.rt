@@ -1,61 +1,58 @@
-// The line of one station (document 01, "The printed listing"). Each word behind the first is put with the space before it.
-use crate::words::put;
-use crate::words::put_number;
-use crate::words::put_word;
-use block::places::message_of;
+// The line of one station (document 01, "The printed listing"): "Words are parted by one space and each line ends with LF."
 use block::places::place_at;
 use block::station_of;
-use line::Content;
+use fields::message_of;
 use line::Message;
 use line::Neighbour;
 use line::Station;
 use octets::word_at;
+use words::put;
+use words::put_mark;
+use words::put_message;
+use words::put_neighbour;
+use words::put_number;
 ghost use mathlib.Core.Path.{_≡_};
-ghost use mathlib.Core.List.{_∷_, map};
+ghost use mathlib.Core.List.{_∷_, [], map};
 ghost use Prim.Native.Nat.{_+_, _≤_};
 ghost use lib.ListN.{length};
 ghost use Rattle.octets.specs.Bytes.{word};
-ghost use Rattle.block.specs.Layout.{messages, siteOf};
-ghost use Rattle.text.specs.Listing.{space, neighbourText, markText, messageText, stationText};
-ghost use Rattle.text.specs.Writing.{Wrote, spaced, stationWords};
+ghost use Rattle.block.specs.Layout.{messages, nodeOf};
+ghost use Rattle.words.specs.Words.{neighbourText, messageText, space, spaced, parted};
+ghost use Rattle.words.specs.Writing.{Wrote};
+ghost use Rattle.text.specs.Listing.{stationWords, stationText};
 
-// "left, right (`-` for none)"
-fn put_neighbour(out: &mut [u8], at: usize, neighbour: Neighbour) -> usize
-    requires { ⌜ at + 11 ≤ length (now out) ⌝ }
-    ensures { λ r. ⌜ Wrote (now (out .entry)) at (space ∷ neighbourText neighbour) r (now (out .exit)) × (r ≤ at + 11) ⌝ }
+// "left, right", with a space before each.
+fn put_neighbours(out: &mut [u8], at: usize, left: Neighbour, right: Neighbour) -> usize
+    requires { ⌜ at + 22 ≤ length (now out) ⌝ }
+    ensures { λ r. ⌜ Wrote (now (out .entry)) at (spaced (neighbourText left ∷ neighbourText right ∷ [])) r (now (out .exit)) × (r ≤ at + 22) ⌝ }
 {
-    let next = put(out, at, b' ');
-    match neighbour {
-        Neighbour::None => put(out, next, b'-'),
-        Neighbour::Station(n) => put_number(out, next, n),
-    }
+    let first = put(out, at, b' ');
+    let second = put_neighbour(out, first, left);
+    let third = put(out, second, b' ');
+    put_neighbour(out, third, right)
 }
 
-// "`stay` or `leave`"
-fn put_mark(out: &mut [u8], at: usize, leaving: bool) -> usize
-    requires { ⌜ at + 6 ≤ length (now out) ⌝ }
-    ensures { λ r. ⌜ Wrote (now (out .entry)) at (space ∷ markText leaving) r (now (out .exit)) × (r ≤ at + 6) ⌝ }
+// "number, left, right (`-` for none), `stay` or `leave`"
+fn put_station(out: &mut [u8], at: usize, s: Station) -> usize
+    requires { ⌜ at + 38 ≤ length (now out) ⌝ }
+    ensures { λ r. ⌜ Wrote (now (out .entry)) at (parted (stationWords s)) r (now (out .exit)) × (r ≤ at + 38) ⌝ }
 {
-    if leaving {
-        return put_word(out, at, b" leave");
-    }
-    put_word(out, at, b" stay")
+    let left = s.left;
+    let right = s.right;
+    let marks = s.marks;
+    let first = put_number(out, at, s.number);
+    let second = put_neighbours(out, first, left, right);
+    let third = put(out, second, b' ');
+    put_mark(out, third, marks)
 }
 
-// "messages as `i` with the number, `l` or `r`"
-fn put_message(out: &mut [u8], at: usize, m: Message) -> usize
+// A message behind a space.
+fn put_further(out: &mut [u8], at: usize, m: Message) -> usize
     requires { ⌜ at + 12 ≤ length (now out) ⌝ }
     ensures { λ r. ⌜ Wrote (now (out .entry)) at (space ∷ messageText m) r (now (out .exit)) × (r ≤ at + 12) ⌝ }
 {
-    let content = m.content;
-    match content {
-        Content::Introduction(n) => {
-            let next = put_word(out, at, b" i");
-            put_number(out, next, n)
-        }
-        Content::RemoveLeft => put_word(out, at, b" l"),
-        Content::RemoveRight => put_word(out, at, b" r"),
-    }
+    let next = put(out, at, b' ');
+    put_message(out, next, m)
 }
 
 // The messages of a block, in its order: up to 12 bytes for each of 32.
@@ -67,29 +64,16 @@ fn put_messages(out: &mut [u8], at: usize, b: &[u8]) -> usize
     let mut end = at;
     let mut i = 0;
     while i < n {
-        end = put_message(out, end, message_of(place_at(b, i)));
+        end = put_further(out, end, message_of(place_at(b, i)));
         i += 1;
     }
     end
 }
 
-// "number, left, right (`-` for none), `stay` or `leave`"
-fn put_station(out: &mut [u8], at: usize, s: Station) -> usize
-    requires { ⌜ at + 38 ≤ length (now out) ⌝ }
-    ensures { λ r. ⌜ Wrote (now (out .entry)) at (stationWords s) r (now (out .exit)) × (r ≤ at + 38) ⌝ }
-{
-    let left = s.left;
-    let right = s.right;
-    let first = put_number(out, at, s.number);
-    let second = put_neighbour(out, first, left);
-    let third = put_neighbour(out, second, right);
-    put_mark(out, third, s.leaving)
-}
-
 // The line of the station in a block: up to 38 bytes for the station, 384 for its messages and the line feed.
 pub(crate) fn put_line(out: &mut [u8], at: usize, b: &[u8]) -> usize
     requires { ⌜ (length (now b) ≡ 512) × (word (now b) 16 ≤ 32) × (at + 423 ≤ length (now out)) ⌝ }
-    ensures { λ r. ⌜ Wrote (now (out .entry)) at (stationText (siteOf (now (b .entry)))) r (now (out .exit)) × (r ≤ at + 423) ⌝ }
+    ensures { λ r. ⌜ Wrote (now (out .entry)) at (stationText (nodeOf (now (b .entry)))) r (now (out .exit)) × (r ≤ at + 423) ⌝ }
 {
     let named = put_station(out, at, station_of(b));
     let end = put_messages(out, named, b);

@@ -7,16 +7,16 @@ use mathlib.Core.List.{List, [], _++_}
 use lib.ListN.{length, take, drop, replicate}
 use Rattle.table.specs.Blocks.{blocks}
 use Rattle.table.specs.Fault.{faultOf}
-use Rattle.view.specs.View.{kept, seen, viewed, walked}
+use Rattle.view.specs.View.{shown, blockOrEnd, viewed, walked}
 
 -- A view of an accepted table gives its blocks in stored order, then the end, and the end again however often it is asked.
 abbrev pub AcceptedWalked : Type 0
-AcceptedWalked = (t : List ℕ) (n : ℕ) → faultOf t ≡ 0 → walked (kept t) 0 (length t / 512 + n) ≡ blocks t ++ replicate n []
+AcceptedWalked = (t : List ℕ) (n : ℕ) → faultOf t ≡ 0 → walked (shown t) 0 (length t / 512 + n) ≡ blocks t ++ replicate n []
 
 -- A view of any other table gives no block however often it is asked.
 abbrev pub RefusedWalked : Type 0
-RefusedWalked = (t : List ℕ) (n : ℕ) → faultOf t ≢ 0 → walked (kept t) 0 n ≡ replicate n []
+RefusedWalked = (t : List ℕ) (n : ℕ) → faultOf t ≢ 0 → walked (shown t) 0 n ≡ replicate n []
 
 -- Where the numbers tell of a block, the 512 bytes at the offset are the block that the view gives.
 abbrev pub OffsetLeads : Type 0
-OffsetLeads = (t : List ℕ) (p : ℕ) → viewed t p .found ≡ true → take 512 (drop (viewed t p .offset) t) ≡ seen (kept t) p
+OffsetLeads = (t : List ℕ) (p : ℕ) → viewed t p .found ≡ true → take 512 (drop (viewed t p .offset) t) ≡ blockOrEnd (shown t) p

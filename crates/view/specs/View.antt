@@ -9,39 +9,39 @@ use Rattle.table.specs.Fault.{faultOf}
 use Rattle.view.specs.declared.Looked.{Looked}
 
 -- what an answer leaves of a table for a view: all of it at 0, else nothing
-abbrev pub keptAt : ℕ → List ℕ → List ℕ
-keptAt answer t = cond (eqb answer 0) t []
+abbrev pub shownAt : ℕ → List ℕ → List ℕ
+shownAt answer t = cond (eqb answer 0) t []
 
 -- "Over a table that isn't accepted it gives the check's number and no block": the bytes that a view of a table holds
-unfoldable pub kept : List ℕ → List ℕ
-kept t = keptAt (faultOf t) t
+unfoldable pub shown : List ℕ → List ℕ
+shown t = shownAt (faultOf t) t
 
 -- whether bytes have a block at a position, counted in blocks
 unfoldable pub hasBlock : List ℕ → ℕ → Bool
 hasBlock t p = ltb p (length t / 512)
 
 -- "else the blocks in stored order, each being those 512 bytes of the caller's table, then the end": the block, or no bytes at the end
-unfoldable pub seen : List ℕ → ℕ → List ℕ
-seen t p = cond (hasBlock t p) (blockAt t p) []
+unfoldable pub blockOrEnd : List ℕ → ℕ → List ℕ
+blockOrEnd t p = cond (hasBlock t p) (blockAt t p) []
 
 -- where it lies, counted from the table's first byte; 0 at the end
-unfoldable pub placed : List ℕ → ℕ → ℕ
-placed t p = cond (hasBlock t p) (512 * p) 0
+unfoldable pub blockOffset : List ℕ → ℕ → ℕ
+blockOffset t p = cond (hasBlock t p) (512 * p) 0
 
 -- the place in memory that lies n bytes behind another: what is lent from a table is the table's own bytes, and no copy of them
-abbrev pub behind : ℕ × ℕ → ℕ → ℕ × ℕ
-behind place n = (place .0, n + place .1)
+abbrev pub addressPast : ℕ × ℕ → ℕ → ℕ × ℕ
+addressPast place n = (place .0, n + place .1)
 
 -- the position after it; the end stays the end
-unfoldable pub after : List ℕ → ℕ → ℕ
-after t p = cond (hasBlock t p) (p + 1) p
+unfoldable pub nextPosition : List ℕ → ℕ → ℕ
+nextPosition t p = cond (hasBlock t p) (p + 1) p
 
 -- all of it in numbers, of any bytes: the check's number, whether there is a block, where it lies in the table, the next position
 unfoldable pub viewed : List ℕ → ℕ → Looked
 viewed t p =
-    record { answer = faultOf t; found = hasBlock (kept t) p; offset = placed (kept t) p; next = after (kept t) p }
+    record { answer = faultOf t; found = hasBlock (shown t) p; offset = blockOffset (shown t) p; next = nextPosition (shown t) p }
 
 -- what a view gives that is asked n times, and moved on after each time
 unfoldable pub walked : List ℕ → ℕ → ℕ → List (List ℕ)
 walked t p zero = []
-walked t p (suc n) = seen t p ∷ walked t (after t p) n
+walked t p (suc n) = blockOrEnd t p ∷ walked t (nextPosition t p) n

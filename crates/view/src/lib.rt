@@ -4,7 +4,7 @@
 use table::check;
 ghost use mathlib.Core.Path.{_≡_};
 ghost use Rattle.table.specs.Fault.{faultOf};
-ghost use Rattle.view.specs.View.{keptAt, kept, seen, placed, behind, after as afterIn, viewed};
+ghost use Rattle.view.specs.View.{shownAt, shown, blockOrEnd, blockOffset, addressPast, nextPosition, viewed};
 
 // What is to be seen at a position, in numbers: the check's number, whether there is a block, where it lies in the table, and the next
 // position.
@@ -16,8 +16,8 @@ pub struct Looked {
 }
 
 // What an answer leaves of a table for a view: all of it at 0, else an empty part.
-fn keep(table: &[u8], answer: u32) -> &[u8]
-    ensures { λ r. ⌜ (now r ≡ keptAt answer (now (table .entry))) × (r .ptr ≡ table .entry .ptr) ⌝ }
+fn show(table: &[u8], answer: u32) -> &[u8]
+    ensures { λ r. ⌜ (now r ≡ shownAt answer (now (table .entry))) × (r .ptr ≡ table .entry .ptr) ⌝ }
 {
     if answer != 0 {
         return &table[0..0];
@@ -27,7 +27,7 @@ fn keep(table: &[u8], answer: u32) -> &[u8]
 
 // The block at a position, where it lies; an empty part at the end.
 fn block_from(table: &[u8], position: usize) -> &[u8]
-    ensures { λ r. ⌜ (now r ≡ seen (now (table .entry)) position) × (r .ptr ≡ behind (table .entry .ptr) (placed (now (table .entry)) position)) ⌝ }
+    ensures { λ r. ⌜ (now r ≡ blockOrEnd (now (table .entry)) position) × (r .ptr ≡ addressPast (table .entry .ptr) (blockOffset (now (table .entry)) position)) ⌝ }
 {
     let blocks = table.len() / 512;
     if position >= blocks {
@@ -39,8 +39,8 @@ fn block_from(table: &[u8], position: usize) -> &[u8]
 }
 
 // The position after it; the end stays the end.
-fn after(table: &[u8], position: usize) -> usize
-    ensures { λ r. ⌜ r ≡ afterIn (now (table .entry)) position ⌝ }
+fn next_position(table: &[u8], position: usize) -> usize
+    ensures { λ r. ⌜ r ≡ nextPosition (now (table .entry)) position ⌝ }
 {
     if position >= table.len() / 512 {
         return position;
@@ -53,7 +53,7 @@ pub fn look(table: &[u8], position: usize) -> Looked
     ensures { λ r. ⌜ r ≡ viewed (now (table .entry)) position ⌝ }
 {
     let answer = check(table);
-    let blocks = keep(table, answer).len() / 512;
+    let blocks = show(table, answer).len() / 512;
     if position >= blocks {
         return Looked {
             answer,
@@ -84,10 +84,10 @@ pub struct Opened<'a> {
 
 // Checks the caller's table, once for the whole walk; the view of what is opened starts at position 0.
 pub fn open_view<'a>(table: &'a [u8]) -> Opened<'a>
-    ensures { λ r. ⌜ (r .answer ≡ faultOf (now (table .entry))) × (now (r .table) ≡ kept (now (table .entry))) × (r .table .ptr ≡ table .entry .ptr) ⌝ }
+    ensures { λ r. ⌜ (r .answer ≡ faultOf (now (table .entry))) × (now (r .table) ≡ shown (now (table .entry))) × (r .table .ptr ≡ table .entry .ptr) ⌝ }
 {
     let answer = check(table);
-    let shown = keep(table, answer);
+    let shown = show(table, answer);
     Opened {
         answer,
         table: shown,
@@ -96,16 +96,16 @@ pub fn open_view<'a>(table: &'a [u8]) -> Opened<'a>
 
 // The block at the view's position, those 512 bytes of the caller's table; an empty part at the end.
 pub fn current<'a>(view: View<'a>) -> &'a [u8]
-    ensures { λ r. ⌜ (now r ≡ seen (now (view .entry .table)) (view .entry .position)) × (r .ptr ≡ behind (view .entry .table .ptr) (placed (now (view .entry .table)) (view .entry .position))) ⌝ }
+    ensures { λ r. ⌜ (now r ≡ blockOrEnd (now (view .entry .table)) (view .entry .position)) × (r .ptr ≡ addressPast (view .entry .table .ptr) (blockOffset (now (view .entry .table)) (view .entry .position))) ⌝ }
 {
     block_from(view.table, view.position)
 }
 
 // The view moved on by one block; at the end it stays there.
 pub fn advance<'a>(view: View<'a>) -> View<'a>
-    ensures { λ r. ⌜ (r .table ≡ view .entry .table) × (r .position ≡ afterIn (now (view .entry .table)) (view .entry .position)) ⌝ }
+    ensures { λ r. ⌜ (r .table ≡ view .entry .table) × (r .position ≡ nextPosition (now (view .entry .table)) (view .entry .position)) ⌝ }
 {
-    let position = after(view.table, view.position);
+    let position = next_position(view.table, view.position);
     View {
         table: view.table,
         position,
@@ -114,7 +114,7 @@ pub fn advance<'a>(view: View<'a>) -> View<'a>
 
 // The block that a view of the table gives at a position: plain parameters, so that a caller of it needs no walk by hand.
 pub fn view_block(table: &[u8], position: usize) -> &[u8]
-    ensures { λ r. ⌜ (now r ≡ seen (kept (now (table .entry))) position) × (r .ptr ≡ behind (table .entry .ptr) (placed (kept (now (table .entry))) position)) ⌝ }
+    ensures { λ r. ⌜ (now r ≡ blockOrEnd (shown (now (table .entry))) position) × (r .ptr ≡ addressPast (table .entry .ptr) (blockOffset (shown (now (table .entry))) position)) ⌝ }
 {
     let opened = open_view(table);
     current(View {

@@ -1,21 +1,11 @@
 -- The table written lies within the room and has no fault, so it can be listed.
 use mathlib.Core.Path.{sym}
 use borrow.Author.Needs.{needs}
-use denote.Ref.{now}
 use lib.Seq.{length-take-le}
 use Rattle.engine.proofs.Written.{said-within, said-accepted}
 use Rattle.printing.proofs.Printing.{lists}
 use Rattle.printing.proofs.list_run.Statement.{statement}
 use Rattle.printing.proofs.list_run.Tie as tie
-
-run-requires : tie.Need-run-requires
-run-requires c κs = search needs
-
-cast-end : tie.Need-cast-end
-cast-end c = search needs
-
-mul-end : tie.Need-mul-end
-mul-end c = search needs
 
 slice-reshare-prefix-write-listing : tie.Need-slice-reshare-prefix-write-listing
 slice-reshare-prefix-write-listing c = said-within _ _ _ (c .before .before .before .before .run .result) _ (c .before .before .before .before .run .ensures)
@@ -29,12 +19,6 @@ write-listing-requires c κs = (
   λ e. said-accepted _ _ _ (c .before .before .before .before .before .run .result) _ (c .before .before .before .before .before .run .ensures),
 )
 
-same-length : tie.Need-same-length
-same-length c = search needs
-
-same-length-2 : tie.Need-same-length-2
-same-length-2 c = search needs
-
 returns : tie.Need-returns
 returns c =
     let r = c .before .before .before .before .before .before .before .before .run in
@@ -45,12 +29,12 @@ pub list-run-spec : {M : Type 1} → statement M
 list-run-spec =
     tie.close
     (tie.spec
-    run-requires
-    cast-end
-    mul-end
+    (λ c κs. search needs)
+    (λ c. search needs)
+    (λ c. search needs)
     slice-reshare-prefix-write-listing
     slice-aggregate-write-listing
     write-listing-requires
-    same-length
-    same-length-2
+    (λ c. search needs)
+    (λ c. search needs)
     returns)

@@ -1,29 +1,32 @@
--- The number of the check, or what an accepted table says.
-use mathlib.Core.Path.{sym, ap, _∙_}
 use borrow.Author.Needs.{needs}
-use Rattle.questions.specs.Told.{yesNo, isInLine}
-use Rattle.questions.proofs.Asking.{asked-refused, asked-accepted}
+use Rattle.table.proofs.Lines.{inspected-long, inspected-clean, inspected-index, inspected-size}
+use Rattle.questions.proofs.Asking.{line-refused, line-accepted}
 use Rattle.questions.proofs.in_line.Statement.{statement}
 use Rattle.questions.proofs.in_line.Tie as tie
 
-check-requires : tie.Need-check-requires
-check-requires c κs = search needs
-
 returns : tie.Need-returns
-unfolding isInLine
-returns c = asked-refused _ _ (c .before .check .ensures) (c .if1 .taken)
+returns c = search line-refused
+
+array-share-prefix-index : tie.Need-array-share-prefix-index
+array-share-prefix-index c = search inspected-long
+
+slice-aggregate-all-stand : tie.Need-slice-aggregate-all-stand
+slice-aggregate-all-stand c = search inspected-size
 
 all-stand-requires : tie.Need-all-stand-requires
-all-stand-requires c κs = sym (c .before .check .ensures) ∙ c .if1 .left
-
-yes-no-requires : tie.Need-yes-no-requires
-yes-no-requires c κs = search needs
+all-stand-requires c κs = (search inspected-clean, search inspected-index)
 
 returns-2 : tie.Need-returns-2
-unfolding isInLine
-returns-2 c =
-    let s = c .before .before in
-    c .yes-no .ensures ∙ ap yesNo (c .before .all-stand .ensures) ∙ asked-accepted _ _ (s .before .check .ensures) (s .if1 .left)
+returns-2 c = search line-accepted
 
 pub in-line-spec : {M : Type 1} → statement M
-in-line-spec = tie.close (tie.spec check-requires returns all-stand-requires yes-no-requires returns-2)
+in-line-spec =
+    tie.close
+    (tie.spec
+    (λ c κs. search needs)
+    returns
+    array-share-prefix-index
+    slice-aggregate-all-stand
+    all-stand-requires
+    (λ c κs. search needs)
+    returns-2)

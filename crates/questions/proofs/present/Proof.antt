@@ -1,20 +1,17 @@
--- A place before n, or none.
 use borrow.Author.Needs.{needs}
-use borrow.Author.Tests.{lt-ltb, le-ltb}
+use Rattle.table.proofs.Lines.{slot-within}
+use Rattle.questions.proofs.Standing.{present-some, present-none}
 use Rattle.questions.proofs.present.Statement.{statement}
 use Rattle.questions.proofs.present.Tie as tie
 
-mul-t6 : tie.Need-mul-t6
-mul-t6 c = search needs
-
-element-copy-out-t9 : tie.Need-element-copy-out-t9
-element-copy-out-t9 c = search needs
+number-at-requires : tie.Need-number-at-requires
+number-at-requires c κs = search slot-within
 
 returns : tie.Need-returns
-returns c = rw (lt-ltb _ _ (c .if1 .taken))
+returns c = search present-some
 
 returns-2 : tie.Need-returns-2
-returns-2 c = rw (le-ltb _ _ (c .if1 .left))
+returns-2 c = search present-none
 
 pub present-spec : {M : Type 1} → statement M
-present-spec = tie.close (tie.spec mul-t6 element-copy-out-t9 returns returns-2)
+present-spec = tie.close (tie.spec (λ c. search needs) (λ c. search needs) number-at-requires returns returns-2)

@@ -21,15 +21,6 @@ accepted e =
     let a = e .before .before .before .before .before .before .args in
     said-accepted (now (a .table)) (now (a .steps)) (now (a .room)) (e .run .result) (e .run .last .1 .1 .0) (e .run .ensures)
 
-run-requires : tie.Need-run-requires
-run-requires c κs = search needs
-
-cast-size : tie.Need-cast-size
-cast-size c = search needs
-
-mul-size : tie.Need-mul-size
-mul-size c = search needs
-
 slice-reshare-prefix-write-listing : tie.Need-slice-reshare-prefix-write-listing
 slice-reshare-prefix-write-listing c = within (c .before .before .before .before)
 
@@ -39,21 +30,6 @@ slice-aggregate-write-listing c = sym (length-take-le _ _ (within (c .before .be
 write-listing-requires : tie.Need-write-listing-requires
 write-listing-requires c κs = (omega arith, λ h. accepted (c .before .before .before .before .before))
 
-slice-reshare-prefix-write-all : tie.Need-slice-reshare-prefix-write-all
-slice-reshare-prefix-write-all c = search needs
-
-slice-aggregate-write-all : tie.Need-slice-aggregate-write-all
-slice-aggregate-write-all c = search needs
-
-write-all-requires : tie.Need-write-all-requires
-write-all-requires c κs = search needs
-
-same-length : tie.Need-same-length
-same-length c = search needs
-
-same-length-2 : tie.Need-same-length-2
-same-length-2 c = search needs
-
 returns : tie.Need-returns
 returns c = within (c .before .before .before .before .before .before .before .before .before .before)
 
@@ -61,15 +37,15 @@ pub print-run-spec : {M : Type 1} → statement M
 print-run-spec =
     tie.close
     (tie.spec
-    run-requires
-    cast-size
-    mul-size
+    (λ c κs. search needs)
+    (λ c. search needs)
+    (λ c. search needs)
     slice-reshare-prefix-write-listing
     slice-aggregate-write-listing
     write-listing-requires
-    slice-reshare-prefix-write-all
-    slice-aggregate-write-all
-    write-all-requires
-    same-length
-    same-length-2
+    (λ c. search needs)
+    (λ c. search needs)
+    (λ c κs. search needs)
+    (λ c. search needs)
+    (λ c. search needs)
     returns)

@@ -5,14 +5,8 @@ use Rattle.station_line.specs.Interface.{viewedAs}
 use Rattle.station_line.proofs.station_line_view.Statement.{statement}
 use Rattle.station_line.proofs.station_line_view.Tie as tie
 
-look-requires : tie.Need-look-requires
-look-requires c κs = search needs
-
-viewed-as-requires : tie.Need-viewed-as-requires
-viewed-as-requires c κs = search needs
-
 returns : tie.Need-returns
 returns c = c .viewed-as .ensures ∙ ap viewedAs (c .before .look .ensures)
 
 pub station-line-view-spec : {M : Type 1} → statement M
-station-line-view-spec = tie.close (tie.spec look-requires viewed-as-requires returns)
+station-line-view-spec = tie.close (tie.spec (λ c κs. search needs) (λ c κs. search needs) returns)

@@ -4,15 +4,9 @@ use Rattle.station_line.specs.Interface.{toldAs}
 use Rattle.station_line.proofs.told_as.Statement.{statement}
 use Rattle.station_line.proofs.told_as.Tie as tie
 
-number-requires : tie.Need-number-requires
-number-requires c κs = search needs
-
-yes-requires : tie.Need-yes-requires
-yes-requires c κs = search needs
-
 returns : tie.Need-returns
 unfolding toldAs
 returns c = rw (c .before .number .ensures, c .yes .ensures)
 
 pub told-as-spec : {M : Type 1} → statement M
-told-as-spec = tie.close (tie.spec number-requires yes-requires returns)
+told-as-spec = tie.close (tie.spec (λ c κs. search needs) (λ c κs. search needs) returns)

@@ -12,12 +12,9 @@ as-byte : (b : Bool) → boolByte b ≡ cond b 1 0
 as-byte true = refl
 as-byte false = refl
 
-cast-t2 : tie.Need-cast-t2
-cast-t2 c = search needs
-
 returns : tie.Need-returns
 unfolding viewedAs
 returns c = rw (as-byte (c .before .args .looked .found))
 
 pub viewed-as-spec : {M : Type 1} → statement M
-viewed-as-spec = tie.close (tie.spec cast-t2 returns)
+viewed-as-spec = tie.close (tie.spec (λ c. search needs) returns)

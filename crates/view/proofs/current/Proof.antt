@@ -42,7 +42,7 @@ use denote.Triple.Table.{entered, cited}
 use denote.Triple.Walked.{says, Stays, stay-none, walkOf, goes-none, Walks, ends-at, walked, walk-meets}
 use denote.Exit.{yes}
 use denote.Triple.Clauses.{ensured, lasts}
-use Rattle.view.specs.View.{seen, placed, behind}
+use Rattle.view.specs.View.{blockOrEnd, blockOffset, addressPast}
 use Rattle.view.specs.declared.View.{View}
 use Rattle.view.proofs.View as T
 use Rattle.view.proofs.View.Laws as T′
@@ -77,7 +77,7 @@ module _ {M : Type 1} (𝓤 : URA M) (H : Heap 𝓤) (A : Atoms 𝓤) (W : Given
 
   -- the block's bytes, and where they lie
   abbrev Found : RefT (List ℕ) → Type 0
-  Found r = (now r ≡ seen (now (d .table)) (d .position)) × (r .ptr ≡ behind (d .table .ptr) (placed (now (d .table)) (d .position)))
+  Found r = (now r ≡ blockOrEnd (now (d .table)) (d .position)) × (r .ptr ≡ addressPast (d .table .ptr) (blockOffset (now (d .table)) (d .position)))
 
   abbrev Post : Val → SProp 𝓤
   Post = walkOf 𝓤 H A current.ended stayed (current.clauses 𝓤 H A mem run) .post (((κ, tt), (q, tt), tt, (d, tt), (mach ∷ [], tt)), tt)

@@ -1,4 +1,4 @@
--- `open_view` by hand, a walk of its MIR: `check` and `keep` are called, and an `Opened` is made of what they return. All that the proof
+-- `open_view` by hand, a walk of its MIR: `check` and `show` are called, and an `Opened` is made of what they return. All that the proof
 -- knows of either is its contract. A `&[u8]` is Copy: what the table owns is had again for each call, and is still there at the exit.
 use mathlib.Core.Path.{_≡_, refl, ap}
 use Prim.Native.Nat.{ℕ, _<_, _^_}
@@ -42,15 +42,15 @@ use Rattle.table.proofs.check as check
 use Rattle.table.proofs.check.Symbol as check-def
 use Rattle.table.proofs.check.Symbol.{name as #table·check}
 use Rattle.table.proofs.check.Met as check-thm
-use Rattle.view.specs.View.{keptAt}
+use Rattle.view.specs.View.{shownAt}
 use Rattle.view.specs.declared.Opened.{Opened}
-use Rattle.view.proofs.Sight.{kept-left}
+use Rattle.view.proofs.Sight.{shown-left}
 use Rattle.view.proofs.Opened as O
 use Rattle.view.proofs.Opened.Laws as O′
-use Rattle.view.proofs.keep as kept
-use Rattle.view.proofs.keep.Symbol as kept-def
-use Rattle.view.proofs.keep.Symbol.{name as #view·keep}
-use Rattle.view.proofs.keep.Met as kept-thm
+use Rattle.view.proofs.show as shower
+use Rattle.view.proofs.show.Symbol as shower-def
+use Rattle.view.proofs.show.Symbol.{name as #view·show}
+use Rattle.view.proofs.show.Met as shower-thm
 use Rattle.view.proofs.open_view.Key.{name as #view·open-view}
 use Rattle.view.proofs.open_view as opened
 use Rattle.view.proofs.open_view.Statement as stated
@@ -64,8 +64,8 @@ module _ {M : Type 1} (𝓤 : URA M) (H : Heap 𝓤) (A : Atoms 𝓤) (mem : Mem
   abbrev Check : Contract 𝓤
   Check = tripleOf 𝓤 H A check.signature (check.spec 𝓤 H A mem run)
 
-  abbrev Keep : Contract 𝓤
-  Keep = tripleOf 𝓤 H A kept.signature (kept.spec 𝓤 H A mem run)
+  abbrev Show : Contract 𝓤
+  Show = tripleOf 𝓤 H A shower.signature (shower.spec 𝓤 H A mem run)
 
 module _ {M : Type 1} (𝓤 : URA M) (H : Heap 𝓤) (A : Atoms 𝓤) (W : Given 𝓤 H A) (mem : Memory → SProp 𝓤) (run : Routine → Fun 𝓤) (κ : Lft) (q : Share) (s : RefT (List ℕ)) where
   -- the machine value of a slice
@@ -94,40 +94,40 @@ module _ {M : Type 1} (𝓤 : URA M) (H : Heap 𝓤) (A : Atoms 𝓤) (W : Given
   check-said : (r : ℕ) → ent 𝓤 (ensured 𝓤 H A check.ended (check.clauses 𝓤 H A mem run) (κ, tt) (s, tt) tt r) (fact 𝓤 (r ≡ faultOf (now s)))
   check-said r = exE 𝓤 _ (λ ws. snd∗ 𝓤 (sem 𝓤 H A (lasts check.ended (κ, tt) (s, tt) ws)) (fact 𝓤 (r ≡ faultOf (now s))))
 
-  -- the call of `keep`, at the number r
-  abbrev passed : ℕ → Vals kept.signature (κ, tt)
+  -- the call of `show`, at the number r
+  abbrev passed : ℕ → Vals shower.signature (κ, tt)
   passed r = (v ∷ [], (vint w32 r ∷ [], tt))
 
-  abbrev to-keep : ℕ → Keep 𝓤 H A mem run .Ghost
-  to-keep r = (((κ, tt), (q, tt), tt, (s, (r, tt)), passed r), tt)
+  abbrev to-show : ℕ → Show 𝓤 H A mem run .Ghost
+  to-show r = (((κ, tt), (q, tt), tt, (s, (r, tt)), passed r), tt)
 
-  goes-keep : (r : ℕ) → r < 2 ^ 32 → ent 𝓤 (⋆ 𝓤 H A ((‵ (flft κ q) ⊛ ‵ ftrue) ∷ ‵ Own ∷ [])) (sep 𝓤 (Keep 𝓤 H A mem run .pre (to-keep r)) (sem 𝓤 H A Own))
-  goes-keep r fits =
+  goes-show : (r : ℕ) → r < 2 ^ 32 → ent 𝓤 (⋆ 𝓤 H A ((‵ (flft κ q) ⊛ ‵ ftrue) ∷ ‵ Own ∷ [])) (sep 𝓤 (Show 𝓤 H A mem run .pre (to-show r)) (sem 𝓤 H A Own))
+  goes-show r fits =
       qed W ((‵ (flft κ q) ⊛ ‵ ftrue) ∷ ‵ Own ∷ []) ∵
       move ! (1 ∷ []) $ use1 W (‵ Own ⊛ ‵ Own) (shr-slice-copy 𝓤 H A W (named 0) κ u8 .twice s (v ∷ [])) $ split ! $
       nothing ! $ owned ! u32 (Is u32) (uint-makes 𝓤 H A W w32) r _ (refl, fits) $ fjoin ! $ move ! (1 ∷ 0 ∷ []) $ fjoin ! $
-      move ! (2 ∷ 0 ∷ []) $ use2 W (raw (Keep 𝓤 H A mem run .pre (to-keep r))) (qed W ((‵ (flft κ q) ⊛ ‵ ftrue) ∷ ‵ (owns (ShrSlice (named 0) κ u8 ∷ u32 ∷ []) (s, (r, tt)) (passed r)) ∷ []) ∵ join ! $ frame ! $ done !) $ frame ! $ done !
+      move ! (2 ∷ 0 ∷ []) $ use2 W (raw (Show 𝓤 H A mem run .pre (to-show r))) (qed W ((‵ (flft κ q) ⊛ ‵ ftrue) ∷ ‵ (owns (ShrSlice (named 0) κ u8 ∷ u32 ∷ []) (s, (r, tt)) (passed r)) ∷ []) ∵ join ! $ frame ! $ done !) $ frame ! $ done !
 
-  abbrev Kept : ℕ → RefT (List ℕ) → Type 0
-  Kept r p = (now p ≡ keptAt r (now s)) × (p .ptr ≡ s .ptr)
+  abbrev Shown : ℕ → RefT (List ℕ) → Type 0
+  Shown r p = (now p ≡ shownAt r (now s)) × (p .ptr ≡ s .ptr)
 
-  keep-said : (r : ℕ) (p : RefT (List ℕ)) → ent 𝓤 (ensured 𝓤 H A kept.ended (kept.clauses 𝓤 H A mem run) (κ, tt) (s, (r, tt)) tt p) (fact 𝓤 (Kept r p))
-  keep-said r p = exE 𝓤 _ (λ ws. snd∗ 𝓤 (sem 𝓤 H A (lasts kept.ended (κ, tt) (s, (r, tt)) ws)) (fact 𝓤 (Kept r p)))
+  show-said : (r : ℕ) (p : RefT (List ℕ)) → ent 𝓤 (ensured 𝓤 H A shower.ended (shower.clauses 𝓤 H A mem run) (κ, tt) (s, (r, tt)) tt p) (fact 𝓤 (Shown r p))
+  show-said r p = exE 𝓤 _ (λ ws. snd∗ 𝓤 (sem 𝓤 H A (lasts shower.ended (κ, tt) (s, (r, tt)) ws)) (fact 𝓤 (Shown r p)))
 
   abbrev made : ℕ → RefT (List ℕ) → Opened
   made r p = record { answer = r; table = p }
 
-  exits : (r : ℕ) (p : RefT (List ℕ)) → r ≡ faultOf (now s) → Kept r p → r < 2 ^ 32
+  exits : (r : ℕ) (p : RefT (List ℕ)) → r ≡ faultOf (now s) → Shown r p → r < 2 ^ 32
       → ent 𝓤 (⋆ 𝓤 H A ((‵ (flft κ q) ⊛ ‵ ftrue) ∷ ‵ Own ∷ ‵ (ShrSlice (named 0) κ u8 .own p (of p ∷ [])) ∷ [])) (Post (O′.lowered (made r p)))
   exits r p e ep fits =
       qed W ((‵ (flft κ q) ⊛ ‵ ftrue) ∷ ‵ Own ∷ ‵ (ShrSlice (named 0) κ u8 .own p (of p ∷ [])) ∷ []) ∵
-      suffices ! _ (ends-at 𝓤 H A opened.ended stayed (opened.clauses 𝓤 H A mem run) W (((κ, tt), (q, tt), tt, (s, tt), (v ∷ [], tt)), tt) (O′.lowered (made r p)) (made r p) (tt, tt) (tt, tt)) $ says ! (e, kept-left (now s) (now p) r e (ep .0), ep .1) $
+      suffices ! _ (ends-at 𝓤 H A opened.ended stayed (opened.clauses 𝓤 H A mem run) W (((κ, tt), (q, tt), tt, (s, tt), (v ∷ [], tt)), tt) (O′.lowered (made r p)) (made r p) (tt, tt) (tt, tt)) $ says ! (e, shown-left (now s) (now p) r e (ep .0), ep .1) $
       frame ! $ nothing ! $ move ! (1 ∷ 0 ∷ []) $ fjoin ! $ frame ! $
       -- [what the part owns]: beside the number's facts it is what the struct owns
       nothing ! $ move ! (1 ∷ 0 ∷ []) $ fjoin ! $ owned ! u32 (Is u32) (uint-makes 𝓤 H A W w32) r _ (refl, fits) $ fjoin ! $
       by ! (own-shut 𝓤 H A W (O.the-type (namedLft 1 0 tt (κ, tt))) (O′.the-laws (namedLft 1 0 tt (κ, tt))) (r, (p, tt)))
 
-  module _ (C : Calls 𝓤 H) (Λ : Loops 𝓤 H) (fm : FmC 𝓤 H (W .laws) C) (known-check : Triple 𝓤 (C #table·check) (Check 𝓤 H A mem run)) (known-keep : Triple 𝓤 (C #view·keep) (Keep 𝓤 H A mem run)) where
+  module _ (C : Calls 𝓤 H) (Λ : Loops 𝓤 H) (fm : FmC 𝓤 H (W .laws) C) (known-check : Triple 𝓤 (C #table·check) (Check 𝓤 H A mem run)) (known-show : Triple 𝓤 (C #view·show) (Show 𝓤 H A mem run)) where
     walk : Is (ShrSlice (named 0) κ u8) s (v ∷ []) → ent 𝓤 (onEntry 𝓤 H A opened.signature (κ, tt) (q, tt) (s, tt) (v ∷ [], tt)) (WpFn 𝓤 H C Λ code.function (v ∷ []) Post)
     walk is-s =
         qed W (raw (onEntry 𝓤 H A opened.signature (κ, tt) (q, tt) (s, tt) (v ∷ [], tt)) ∷ []) ∵ enter ! C Λ code.function (v ∷ []) _ $
@@ -140,10 +140,10 @@ module _ {M : Type 1} (𝓤 : URA M) (H : Heap 𝓤) (A : Atoms 𝓤) (W : Given
         -- [the number; the token; what the table owns; room for _3; …; room for _2; …; _1; …; room for _0; …]
         peeks ! u32 (Is u32) (shows 𝓤 H A u32) r (u ∷ []) (λ is.
         land ! (from ! (stop !)) (init ! 5 refl (uint-lawful 𝓤 H A W w32 .typed r _ is .0)) $ rewrite ! 5 (λ (w : Val). ‵ (fat fullShare (tyInt w32) l₂ 0 w)) (ap only (is .0)) refl $
-        move ! (1 ∷ 2 ∷ []) $ use2 W (raw (Keep 𝓤 H A mem run .pre (to-keep r)) ⊛ ‵ Own) (goes-keep r (is .1)) $ split ! $
-        calls-at ! fm (Keep 𝓤 H A mem run) known-keep (to-keep r) (and-then ! (load ! (from ! (stop !)) (look ! 7 refl)) (and-then ! (load ! (from ! (stop !)) (look ! 5 refl)) (no-more !))) (λ u′.
-        use1 W (later (some (λ (p : RefT (List ℕ)). ((‵ (flft κ q) ⊛ ‵ ftrue) ⊛ ‵ (ShrSlice (named 0) κ u8 .own p (u′ ∷ []))) ⊛ raw (ensured 𝓤 H A kept.ended (kept.clauses 𝓤 H A mem run) (κ, tt) (s, (r, tt)) tt p)))) (id⊢ 𝓤 _) $ await ! tt $ pick ! (λ p.
-        split ! $ move ! (1 ∷ []) $ use1 W (raw (fact 𝓤 (Kept r p))) (keep-said r p) $ heard ! (Kept r p) (λ ep. split ! $ move ! (1 ∷ []) $
+        move ! (1 ∷ 2 ∷ []) $ use2 W (raw (Show 𝓤 H A mem run .pre (to-show r)) ⊛ ‵ Own) (goes-show r (is .1)) $ split ! $
+        calls-at ! fm (Show 𝓤 H A mem run) known-show (to-show r) (and-then ! (load ! (from ! (stop !)) (look ! 7 refl)) (and-then ! (load ! (from ! (stop !)) (look ! 5 refl)) (no-more !))) (λ u′.
+        use1 W (later (some (λ (p : RefT (List ℕ)). ((‵ (flft κ q) ⊛ ‵ ftrue) ⊛ ‵ (ShrSlice (named 0) κ u8 .own p (u′ ∷ []))) ⊛ raw (ensured 𝓤 H A shower.ended (shower.clauses 𝓤 H A mem run) (κ, tt) (s, (r, tt)) tt p)))) (id⊢ 𝓤 _) $ await ! tt $ pick ! (λ p.
+        split ! $ move ! (1 ∷ []) $ use1 W (raw (fact 𝓤 (Shown r p))) (show-said r p) $ heard ! (Shown r p) (λ ep. split ! $ move ! (1 ∷ []) $
         -- [the part; the token; what the table owns; the number; room for _3; …; _2; …; _1; …; room for _0; …]
         peeks ! (ShrSlice (named 0) κ u8) (Is (ShrSlice (named 0) κ u8)) (shows 𝓤 H A (ShrSlice (named 0) κ u8)) p (u′ ∷ []) (λ is′.
         land ! (from ! (stop !)) (init ! 4 refl (shr-slice-lawful 𝓤 H A W erased κ u8 .typed p _ is′ .0)) $
@@ -156,16 +156,16 @@ module _ {M : Type 1} (𝓤 : URA M) (H : Heap 𝓤) (A : Atoms 𝓤) (W : Given
         keep ! (1 ∷ 2 ∷ 0 ∷ []) $ by ! (exits r p e ep (is .1))))))))))))))
 
 module _ {M : Type 1} (𝓤 : URA M) (H : Heap 𝓤) (A : Atoms 𝓤) (W : Given 𝓤 H A) (mem : Memory → SProp 𝓤) (run : Routine → Fun 𝓤) where
-  open-view-walks : (C : Calls 𝓤 H) (Λ : Loops 𝓤 H) → FmC 𝓤 H (W .laws) C → Triple 𝓤 (C #table·check) (Check 𝓤 H A mem run) → Triple 𝓤 (C #view·keep) (Keep 𝓤 H A mem run)
+  open-view-walks : (C : Calls 𝓤 H) (Λ : Loops 𝓤 H) → FmC 𝓤 H (W .laws) C → Triple 𝓤 (C #table·check) (Check 𝓤 H A mem run) → Triple 𝓤 (C #view·show) (Show 𝓤 H A mem run)
       → Walks 𝓤 H A opened.ended stayed (WpFn 𝓤 H C Λ code.function) (opened.clauses 𝓤 H A mem run)
-  open-view-walks C Λ fm known-check known-keep = walked 𝓤 H A opened.ended stayed (opened.clauses 𝓤 H A mem run) (WpFn 𝓤 H C Λ code.function) (λ κs. (slice-vals, tt)) (λ κs. (shr-slice-tells (named 0) (κs .0) u8, tt))
-      (λ κs qs bounds a g are. via 𝓤 _ (fst∗ 𝓤 _ (emp 𝓤)) (walk 𝓤 H A W mem run (κs .0) (qs .0) (a .0) C Λ fm known-check known-keep (are .0)))
+  open-view-walks C Λ fm known-check known-show = walked 𝓤 H A opened.ended stayed (opened.clauses 𝓤 H A mem run) (WpFn 𝓤 H C Λ code.function) (λ κs. (slice-vals, tt)) (λ κs. (shr-slice-tells (named 0) (κs .0) u8, tt))
+      (λ κs qs bounds a g are. via 𝓤 _ (fst∗ 𝓤 _ (emp 𝓤)) (walk 𝓤 H A W mem run (κs .0) (qs .0) (a .0) C Λ fm known-check known-show (are .0)))
 
 open-view-meets : {M : Type 1} (𝓤 : URA M) (H : Heap 𝓤) (A : Atoms 𝓤) (W : Given 𝓤 H A) (mem : Memory → SProp 𝓤) (run : Routine → Fun 𝓤) (𝓣 : Tables 𝓤 H)
-    → Triple 𝓤 (𝓣 .C #table·check) (Check 𝓤 H A mem run) → Triple 𝓤 (𝓣 .C #view·keep) (Keep 𝓤 H A mem run)
+    → Triple 𝓤 (𝓣 .C #table·check) (Check 𝓤 H A mem run) → Triple 𝓤 (𝓣 .C #view·show) (Show 𝓤 H A mem run)
     → Meets 𝓤 H A opened.signature (WpFn 𝓤 H (𝓣 .C) (𝓣 .Λ) code.function) (opened.spec 𝓤 H A mem run)
-open-view-meets 𝓤 H A W mem run 𝓣 known-check known-keep = walk-meets 𝓤 H A opened.ended stayed W (goes-none-slice 𝓤 H A W 1 (0 ∷ []) tt (plain (λ _. u8)) yes, tt) (opened.clauses 𝓤 H A mem run) (WpFn 𝓤 H (𝓣 .C) (𝓣 .Λ) code.function) (WpFn-mono 𝓤 H (W .laws) 𝓣 code.function)
-    (open-view-walks 𝓤 H A W mem run (𝓣 .C) (𝓣 .Λ) (fmOf 𝓤 H (W .laws) 𝓣) known-check known-keep)
+open-view-meets 𝓤 H A W mem run 𝓣 known-check known-show = walk-meets 𝓤 H A opened.ended stayed W (goes-none-slice 𝓤 H A W 1 (0 ∷ []) tt (plain (λ _. u8)) yes, tt) (opened.clauses 𝓤 H A mem run) (WpFn 𝓤 H (𝓣 .C) (𝓣 .Λ) code.function) (WpFn-mono 𝓤 H (W .laws) 𝓣 code.function)
+    (open-view-walks 𝓤 H A W mem run (𝓣 .C) (𝓣 .Λ) (fmOf 𝓤 H (W .laws) 𝓣) known-check known-show)
 
 pub open-view-spec : {M : Type 1} → stated.statement M
 unfolding code.routine tablesOf
@@ -174,4 +174,4 @@ open-view-spec 𝓤 H 𝓜 𝓖 𝓡 =
     (tables 𝓤 H 𝓜 𝓡 code.env .C) (tables 𝓤 H 𝓜 𝓡 code.env .Λ) #view·open-view code.function (code.unfolded 𝓤 H 𝓜 𝓡)
     (open-view-meets 𝓤 H (𝓖 .A) (givenOf 𝓤 H 𝓜 𝓖) (𝓜 .mem) (𝓡 .run) (tablesOf 𝓤 H 𝓜 (tables 𝓤 H 𝓜 𝓡 code.env))
     (cited 𝓤 H (Check 𝓤 H (𝓖 .A) (𝓜 .mem) (𝓡 .run)) 𝓜 𝓡 code.env #table·check check-def.routine code.calls-table·check (check-thm.met 𝓤 H 𝓜 𝓖 𝓡))
-    (cited 𝓤 H (Keep 𝓤 H (𝓖 .A) (𝓜 .mem) (𝓡 .run)) 𝓜 𝓡 code.env #view·keep kept-def.routine code.calls-view·keep (kept-thm.met 𝓤 H 𝓜 𝓖 𝓡)))
+    (cited 𝓤 H (Show 𝓤 H (𝓖 .A) (𝓜 .mem) (𝓡 .run)) 𝓜 𝓡 code.env #view·show shower-def.routine code.calls-view·show (shower-thm.met 𝓤 H 𝓜 𝓖 𝓡)))

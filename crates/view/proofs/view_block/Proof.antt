@@ -42,7 +42,7 @@ use denote.Triple.Walked.{says, Stays, stay-none, stay-none-slice, walkOf, goes-
 use denote.Exit.{yes}
 use denote.Triple.Clauses.{ensured, lasts}
 use Rattle.table.specs.Fault.{faultOf}
-use Rattle.view.specs.View.{kept, seen, placed, behind}
+use Rattle.view.specs.View.{shown, blockOrEnd, blockOffset, addressPast}
 use Rattle.view.specs.declared.View.{View}
 use Rattle.view.specs.declared.Opened.{Opened}
 use Rattle.view.proofs.View as T
@@ -105,7 +105,7 @@ module _ {M : Type 1} (𝓤 : URA M) (H : Heap 𝓤) (A : Atoms 𝓤) (W : Given
       move ! (2 ∷ 0 ∷ []) $ use2 W (raw (Open 𝓤 H A mem run .pre to-open)) (qed W ((‵ (flft κ q) ⊛ ‵ ftrue) ∷ ‵ (owns (ShrSlice (named 0) κ u8 ∷ []) (s, tt) (v ∷ [], tt)) ∷ []) ∵ join ! $ frame ! $ done !) $ frame ! $ done !
 
   abbrev Said : Opened → Type 0
-  Said r = (r .answer ≡ faultOf (now s)) × (now (r .table) ≡ kept (now s)) × (r .table .ptr ≡ s .ptr)
+  Said r = (r .answer ≡ faultOf (now s)) × (now (r .table) ≡ shown (now s)) × (r .table .ptr ≡ s .ptr)
 
   open-said : (r : Opened) → ent 𝓤 (ensured 𝓤 H A opened.ended (opened.clauses 𝓤 H A mem run) (κ, tt) (s, tt) tt r) (fact 𝓤 (Said r))
   open-said r = exE 𝓤 _ (λ ws. snd∗ 𝓤 (sem 𝓤 H A (lasts opened.ended (κ, tt) (s, tt) ws)) (fact 𝓤 (Said r)))
@@ -138,12 +138,12 @@ module _ {M : Type 1} (𝓤 : URA M) (H : Heap 𝓤) (A : Atoms 𝓤) (W : Given
 
   -- the block's bytes, and where they lie
   abbrev Found : Opened → RefT (List ℕ) → Type 0
-  Found r t = (now t ≡ seen (now (r .table)) n) × (t .ptr ≡ behind (r .table .ptr) (placed (now (r .table)) n))
+  Found r t = (now t ≡ blockOrEnd (now (r .table)) n) × (t .ptr ≡ addressPast (r .table .ptr) (blockOffset (now (r .table)) n))
 
   current-said : (r : Opened) (t : RefT (List ℕ)) → ent 𝓤 (ensured 𝓤 H A current.ended (current.clauses 𝓤 H A mem run) (κ, tt) (view r, tt) tt t) (fact 𝓤 (Found r t))
   current-said r t = exE 𝓤 _ (λ ws. snd∗ 𝓤 (sem 𝓤 H A (lasts current.ended (κ, tt) (view r, tt) ws)) (fact 𝓤 (Found r t)))
 
-  exits : (t : RefT (List ℕ)) (u : Val) → (now t ≡ seen (kept (now s)) n) × (t .ptr ≡ behind (s .ptr) (placed (kept (now s)) n)) → ent 𝓤 (⋆ 𝓤 H A (‵ (ShrSlice (named 0) κ u8 .own t (u ∷ [])) ∷ (‵ (flft κ q) ⊛ ‵ ftrue) ∷ ‵ Own ∷ [])) (Post u)
+  exits : (t : RefT (List ℕ)) (u : Val) → (now t ≡ blockOrEnd (shown (now s)) n) × (t .ptr ≡ addressPast (s .ptr) (blockOffset (shown (now s)) n)) → ent 𝓤 (⋆ 𝓤 H A (‵ (ShrSlice (named 0) κ u8 .own t (u ∷ [])) ∷ (‵ (flft κ q) ⊛ ‵ ftrue) ∷ ‵ Own ∷ [])) (Post u)
   exits t u e =
       qed W (‵ (ShrSlice (named 0) κ u8 .own t (u ∷ [])) ∷ (‵ (flft κ q) ⊛ ‵ ftrue) ∷ ‵ Own ∷ []) ∵
       suffices ! _ (ends-at 𝓤 H A block.ended stayed (block.clauses 𝓤 H A mem run) W (((κ, tt), (q, tt), tt, (s, (n, tt)), at), tt) u t (tt, (tt, tt)) (tt, (tt, tt))) $ says ! e $
@@ -176,7 +176,7 @@ module _ {M : Type 1} (𝓤 : URA M) (H : Heap 𝓤) (A : Atoms 𝓤) (W : Given
         land ! (from ! (stop !)) (init ! 13 refl (shr-slice-lawful 𝓤 H A W (named 0) κ u8 .typed t _ is′ .0)) $
         returns ! (look ! 13 refl) $ forget ! 3 refl $ forget ! 5 refl $ forget ! 7 refl $ forget ! 9 refl $ forget ! 11 refl $ forget ! 13 refl $
         move ! (13 ∷ 14 ∷ []) $ free1 ! $ move ! (11 ∷ 12 ∷ []) $ free1 ! $ move ! (9 ∷ 10 ∷ []) $ free1 ! $ move ! (7 ∷ 8 ∷ []) $ free1 ! $ move ! (5 ∷ 6 ∷ []) $ free1 ! $ move ! (3 ∷ 4 ∷ []) $ free1 ! $ free0 ! $
-        by ! (exits t u′ (e′ .0 ∙ ap (λ (x : List ℕ). seen x n) (e .1), e′ .1 ∙ (ap (λ (x : List ℕ). behind (r .table .ptr) (placed x n)) (e .1) ∙ ap (λ (x : ℕ × ℕ). behind x (placed (kept (now s)) n)) (e .2)))))))))))))))))))
+        by ! (exits t u′ (e′ .0 ∙ ap (λ (x : List ℕ). blockOrEnd x n) (e .1), e′ .1 ∙ (ap (λ (x : List ℕ). addressPast (r .table .ptr) (blockOffset x n)) (e .1) ∙ ap (λ (x : ℕ × ℕ). addressPast x (blockOffset (shown (now s)) n)) (e .2)))))))))))))))))))
 
 module _ {M : Type 1} (𝓤 : URA M) (H : Heap 𝓤) (A : Atoms 𝓤) (W : Given 𝓤 H A) (mem : Memory → SProp 𝓤) (run : Routine → Fun 𝓤) where
   view-block-walks : (C : Calls 𝓤 H) (Λ : Loops 𝓤 H) → FmC 𝓤 H (W .laws) C → Triple 𝓤 (C #view·open-view) (Open 𝓤 H A mem run) → Triple 𝓤 (C #view·current) (Current 𝓤 H A mem run)

@@ -1,20 +1,13 @@
--- Something is sent, or nothing.
 use borrow.Author.Needs.{needs}
-use Rattle.moves.proofs.SendWays.{room-sent}
+use Rattle.moves.proofs.Sending.{room-none, room-sent}
 use Rattle.moves.proofs.sends.room_for.Statement.{statement}
 use Rattle.moves.proofs.sends.room_for.Tie as tie
 
-enum-told : tie.Need-enum-told
-enum-told c = search needs
-
-enum-known-sending : tie.Need-enum-known-sending
-enum-known-sending c = search needs
-
 returns : tie.Need-returns
-returns c = search needs
+returns c = search room-none
 
 returns-2 : tie.Need-returns-2
-returns-2 c = room-sent _ _ _ (c .before .sending .given .1) _
+returns-2 c = search room-sent
 
 pub room-for-spec : {M : Type 1} → statement M
-room-for-spec = tie.close (tie.spec enum-told enum-known-sending returns returns-2)
+room-for-spec = tie.close (tie.spec (λ c. search needs) (λ c. search needs) returns returns-2)

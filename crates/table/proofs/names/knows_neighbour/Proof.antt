@@ -5,15 +5,6 @@ use Rattle.line.specs.Accepted.{knowsNeighbour}
 use Rattle.table.proofs.names.knows_neighbour.Statement.{statement}
 use Rattle.table.proofs.names.knows_neighbour.Tie as tie
 
-enum-told : tie.Need-enum-told
-enum-told c = search needs
-
-enum-known-neighbour : tie.Need-enum-known-neighbour
-enum-known-neighbour c = search needs
-
-is-listed-requires : tie.Need-is-listed-requires
-is-listed-requires c κs = search needs
-
 returns : tie.Need-returns
 unfolding knowsNeighbour
 returns c = λ line h. rw (c .enum-told .given .1)
@@ -24,4 +15,4 @@ returns-2 c = λ line h. rw (c .before .before .neighbour .given .1) (c .is-list
 
 pub knows-neighbour-spec : {M : Type 1} → statement M
 knows-neighbour-spec =
-    tie.close (tie.spec enum-told enum-known-neighbour is-listed-requires returns returns-2)
+    tie.close (tie.spec (λ c. search needs) (λ c. search needs) (λ c κs. search needs) returns returns-2)

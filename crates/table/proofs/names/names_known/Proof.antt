@@ -6,41 +6,24 @@ use native.Mathlib.Omega.{arith}
 use lib.ListN.{drop, length}
 use borrow.Author.Needs.{needs}
 use denote.Ref.{now}
-use Rattle.line.specs.Lists.{all}
+use Rattle.lists.specs.Lists.{all}
 use Rattle.line.specs.Accepted.{namesPresent}
-use Rattle.block.specs.Layout.{siteOf}
-use Rattle.block.proofs.FieldLaws.{no-fault-count}
-use Rattle.table.specs.Blocks.{blockAt, blocks, sites}
+use Rattle.block.specs.Layout.{nodeOf}
+use Rattle.table.specs.Blocks.{blocks, nodes}
 use Rattle.table.proofs.BlockLaws.{blocks-from, blocks-end, block-length, block-member, lent}
 use Rattle.table.proofs.FaultLaws.{no-fault-of}
-use Rattle.table.proofs.NameLaws.{sorted-lists}
 use Rattle.table.proofs.names.names_known.Statement.{statement}
 use Rattle.table.proofs.names.names_known.Tie as tie
 
 abbrev Inv-loop : tie.InvT-loop
-Inv-loop table sorted n k₀ k = (k ≤ n) × (all (namesPresent (sites table)) (sites table) ≡ all (namesPresent (sites table)) (map siteOf (drop k (blocks table))))
+Inv-loop table index n k₀ k = (k ≤ n) × (all (namesPresent (nodes table)) (nodes table) ≡ all (namesPresent (nodes table)) (map nodeOf (drop k (blocks table))))
 
 abbrev μ-loop : tie.MeasureT-loop
-μ-loop table sorted n k₀ k = n - k
+μ-loop table index n k₀ k = n - k
 
 loop-holds : tie.Need-loop-holds Inv-loop μ-loop
-unfolding sites
+unfolding nodes
 loop-holds c = (omega arith, refl)
-
-mul-start : tie.Need-mul-start Inv-loop μ-loop
-mul-start c = search needs
-
-add-end : tie.Need-add-end Inv-loop μ-loop
-add-end c = search needs
-
-sub-knows-names : tie.Need-sub-knows-names Inv-loop μ-loop
-sub-knows-names c = search needs
-
-part-knows-names-start : tie.Need-part-knows-names-start Inv-loop μ-loop
-part-knows-names-start c = search needs
-
-part-knows-names-end : tie.Need-part-knows-names-end Inv-loop μ-loop
-part-knows-names-end c = search needs
 
 knows-names-requires : tie.Need-knows-names-requires Inv-loop μ-loop
 knows-names-requires c κs =
@@ -49,13 +32,7 @@ knows-names-requires c κs =
     let k = at .loop .k in
     let pre = at .before .before .before .pre in
     let inside : k < length t / 512 = omega arith in
-    rw (lent t k) (block-length t k inside, no-fault-count (blockAt t k) (no-fault-of (blocks t) (pre .0) (block-member t k inside)), pre .2)
-
-add-k : tie.Need-add-k Inv-loop μ-loop
-add-k c = search needs
-
-loop-less : tie.Need-loop-less Inv-loop μ-loop
-loop-less c = search needs
+    rw (lent t k) (block-length t k inside, no-fault-of (blocks t) (pre .0) (block-member t k inside), pre .2)
 
 loop-again : tie.Need-loop-again Inv-loop μ-loop
 unfolding all
@@ -63,7 +40,7 @@ loop-again c =
     let at = c .before .before .before .before in
     let t = now (at .before .before .before .args .table) in
     let k = at .loop .k in
-    let known = sym (c .before .knows-names .ensures (sites t) (rw (at .before .before .before .pre .1) (sorted-lists (sites t)))) ∙ c .if1 .taken in
+    let known = sym (c .before .knows-names .ensures (nodes t) (at .before .before .before .pre .1)) ∙ c .if1 .taken in
     (omega arith, at .loop .inv .1 ∙ rw (blocks-from t k (omega arith), ← lent t k, known))
 
 returns : tie.Need-returns Inv-loop μ-loop
@@ -72,7 +49,7 @@ returns c =
     let at = c .before .before .before .before in
     let t = now (at .before .before .before .args .table) in
     let k = at .loop .k in
-    let known = sym (c .before .knows-names .ensures (sites t) (rw (at .before .before .before .pre .1) (sorted-lists (sites t)))) ∙ c .if1 .left in
+    let known = sym (c .before .knows-names .ensures (nodes t) (at .before .before .before .pre .1)) ∙ c .if1 .left in
     sym (at .loop .inv .1 ∙ rw (blocks-from t k (omega arith), ← lent t k, known))
 
 returns-2 : tie.Need-returns-2 Inv-loop μ-loop
@@ -89,14 +66,14 @@ names-known-spec =
     Inv-loop
     μ-loop
     loop-holds
-    mul-start
-    add-end
-    sub-knows-names
-    part-knows-names-start
-    part-knows-names-end
+    (λ c. search needs)
+    (λ c. search needs)
+    (λ c. search needs)
+    (λ c. search needs)
+    (λ c. search needs)
     knows-names-requires
-    add-k
-    loop-less
+    (λ c. search needs)
+    (λ c. search needs)
     loop-again
     returns
     returns-2)

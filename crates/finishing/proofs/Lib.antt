@@ -1,0 +1,2 @@
+-- What the proof of the end shares.
+pub mod Ending

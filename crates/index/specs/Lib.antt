@@ -1,0 +1,2 @@
+-- What a reader must believe of an index.
+pub mod Index

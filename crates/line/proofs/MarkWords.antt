@@ -1,0 +1,47 @@
+-- Marks to the two words that say them, and back.
+use mathlib.Core.Path.{_≡_, refl, sym, subst}
+use mathlib.Core.Bool.{Bool, true, false, cond}
+use Prim.Native.Nat.{ℕ, zero, suc, _≤_}
+use native.Mathlib.Omega.{arith}
+use lib.Dec.{eqb}
+use borrow.Author.Tests.{eqb-true, leb-true}
+use Rattle.lists.proofs.Lists.{and-both, both-and}
+use Rattle.line.specs.declared.Marks.{Marks}
+use Rattle.line.specs.Marks.{flags, flagsHold, reserved, reservedHolds, marksFrom, marksHold}
+
+-- The words of a block: they are the words of the marks that they say, and stand in 16 bits.
+pub flags-same : (f r : ℕ) → flagsHold f ≡ true → flags (marksFrom f r) ≡ f
+flags-same f r h = go f (leb-true f 1 h)
+  where
+    go : (n : ℕ) → n ≤ 1 → cond (eqb n 1) 1 0 ≡ n
+    go zero h = refl
+    go (suc zero) h = refl
+    go (suc (suc n)) h = absurd (omega arith)
+
+pub flags-low : (n : ℕ) → flagsHold n ≡ true → n ≤ 65535
+flags-low n h = omega (arith, leb-true n 1 h)
+
+pub reserved-same : (f r : ℕ) → reservedHolds r ≡ true → (reserved (marksFrom f r) ≡ r) × (r ≤ 65535)
+reserved-same f r h = let e = eqb-true r 0 h in (sym e, omega arith)
+
+pub words-hold : (f r : ℕ) → flagsHold f ≡ true → reservedHolds r ≡ true → marksHold (marksFrom f r) ≡ true
+unfolding marksHold
+words-hold f r g h =
+    both-and (subst (λ (n : ℕ). flagsHold n ≡ true) (sym (flags-same f r g)) g) (subst (λ (n : ℕ). reservedHolds n ≡ true) (sym (reserved-same f r h .0)) h)
+
+-- The marks that the layout can say: their words hold, and say them.
+module _ (m : Marks) (h : marksHold m ≡ true) where
+  pub flags-hold : flagsHold (flags m) ≡ true
+  unfolding marksHold
+  flags-hold = and-both (flagsHold (flags m)) (reservedHolds (reserved m)) h .0
+
+  pub reserved-hold : reservedHolds (reserved m) ≡ true
+  unfolding marksHold
+  reserved-hold = and-both (flagsHold (flags m)) (reservedHolds (reserved m)) h .1
+
+pub marks-back : (m : Marks) → marksFrom (flags m) (reserved m) ≡ m
+marks-back m = rw (go (m .leaving))
+  where
+    go : (t : Bool) → eqb (cond t 1 0) 1 ≡ t
+    go true = refl
+    go false = refl

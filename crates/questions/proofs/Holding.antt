@@ -1,0 +1,151 @@
+-- Who holds a station, asked of the blocks: the counted places of a block one after another, then the blocks in the order of the index.
+use Prim.Native.Nat.{ℕ, zero, suc, _+_, _≤_, _<_}
+use mathlib.Core.Path.{_≡_, refl, sym, ap, _∙_}
+use mathlib.Core.Logic.{⊎-elim}
+use mathlib.Core.Bool.{Bool, true, false, _||_, or-false, or-true, or-assoc}
+use mathlib.Core.List.{List, [], _∷_, _++_}
+use native.Mathlib.Nat.{le-of-suc-le-suc, not-suc-le-zero, eq-or-lt-of-le}
+use native.Mathlib.Numerals.{add-one}
+use native.Mathlib.Omega.{arith}
+use lib.Dec.{eqb}
+use lib.ListN.{length, getD, drop}
+use Rattle.lists.specs.Lists.{any}
+use Rattle.lists.specs.Places.{firstAt}
+use Rattle.lists.proofs.Lists.{sort-any}
+use Rattle.line.specs.declared.Content.the-variants.{Introduction, RemoveLeft, RemoveRight}
+use Rattle.line.specs.declared.Message.{Message}
+use Rattle.line.specs.declared.Station as declared
+use Rattle.line.specs.Message.{introduction, same, holds, precedes}
+use Rattle.line.specs.Node.{Node, withBagInOrder, nobody}
+use Rattle.line.specs.Nidec.{isNeighbour, names}
+use Rattle.fields.specs.declared.Place.{Place}
+use Rattle.fields.specs.Fields.{messageOf}
+use Rattle.octets.specs.Bytes.{word}
+use Rattle.block.specs.Layout.{placeAt, messages, stationOf, nodeOf}
+use Rattle.index.specs.Index.{slotIn}
+use Rattle.table.specs.Blocks.{blockAt, lineOf}
+use Rattle.table.specs.Fault.{faultOf}
+use Rattle.table.specs.Index.{indexOf}
+use Rattle.table.proofs.Lines.{line-from, line-end, line-at}
+use Rattle.moves.specs.Holders.{isHolder}
+use Rattle.moves.proofs.Holding.{holder-itself, holder-left, holder-right, holder-bag}
+
+-- An introduction of p is known by its content.
+module _ (p : ℕ) (m : Message) where
+  pub is-introduced : (q : ℕ) → m .content ≡ Introduction q → eqb p q ≡ same (introduction p) m
+  unfolding same
+  is-introduced q e = rw e
+
+  pub is-remove-left : m .content ≡ RemoveLeft → false ≡ same (introduction p) m
+  unfolding same
+  is-remove-left e = rw e
+
+  pub is-remove-right : m .content ≡ RemoveRight → false ≡ same (introduction p) m
+  unfolding same
+  is-remove-right e = rw e
+
+-- Whether some of the first n messages passes a test.
+any-append : {A : Type 0} (f : A → Bool) (a b : List A) → any f (a ++ b) ≡ (any f a || any f b)
+unfolding any
+any-append f [] b = refl
+any-append f (x ∷ a) b = ap (λ (t : Bool). f x || t) (any-append f a b) ∙ sym (or-assoc (f x) (any f a) (any f b))
+
+module _ (f : Message → Bool) (b : List ℕ) where
+  any-suc : (n : ℕ) → any f (messages b (suc n)) ≡ (any f (messages b n) || f (messageOf (placeAt b n)))
+  unfolding messages any
+  any-suc n = any-append f (messages b n) (messageOf (placeAt b n) ∷ []) ∙ ap (λ (t : Bool). any f (messages b n) || t) (or-false (f (messageOf (placeAt b n))))
+
+  any-found : (i n : ℕ) → i < n → f (messageOf (placeAt b i)) ≡ true → any f (messages b n) ≡ true
+  any-found i zero h e = absurd (not-suc-le-zero h)
+  any-found i (suc n) h e =
+      any-suc n
+      ∙ ⊎-elim
+      (λ (p : i ≡ n). rw (← p, e, or-true))
+      (λ (p : i < n). rw (any-found i n p e))
+      (eq-or-lt-of-le (le-of-suc-le-suc h))
+
+-- none of the first i of the n counted places introduces p
+pub record PlacesTo (p : ℕ) (b : List ℕ) (n i : ℕ) : Type 0 where
+  pub within : i ≤ n
+  pub few : n ≤ 32
+  pub counted : n ≡ word b 16
+  pub none : holds (introduction p) (messages b i) ≡ false
+
+pub places-none : (p : ℕ) (b : List ℕ) {n : ℕ} → n ≡ word b 16 → word b 16 ≤ 32 → PlacesTo p b n 0
+unfolding messages any
+places-none p b e h = record { within = omega arith; few = omega arith; counted = e; none = refl }
+
+module _ {p : ℕ} {b : List ℕ} {n i : ℕ} (so-far : PlacesTo p b n i) where
+  -- place i is asked
+  module _ (h : i < n) {x : Place} (read : x ≡ placeAt b i) {m : Message} (is : m ≡ messageOf x) {t : Bool} (tells : t ≡ same (introduction p) m) where
+    here : same (introduction p) (messageOf (placeAt b i)) ≡ t
+    here = sym (rw (is, read) at tells)
+
+    pub places-next : t ≡ false → PlacesTo p b n (i + 1)
+    places-next e = record {
+      within = omega arith;
+      few = so-far .few;
+      counted = so-far .counted;
+      none = rw (add-one i, any-suc (same (introduction p)) b i, so-far .none, here, e);
+    }
+
+    pub places-found : t ≡ true → true ≡ holds (introduction p) (messages b (word b 16))
+    places-found e = let c = so-far .counted in sym (any-found (same (introduction p)) b i (word b 16) (omega arith) (here ∙ e))
+
+  pub places-all : n ≤ i → false ≡ holds (introduction p) (messages b (word b 16))
+  places-all h =
+      let w = so-far .within in
+      let c = so-far .counted in
+      let e : i ≡ word b 16 = omega arith in
+      sym (rw e at (so-far .none))
+
+-- Whether the station of a block holds p: it is p itself; p is its left; its right; its messages tell.
+module _ (p : ℕ) (b : List ℕ) {s : declared.Station} (is : s ≡ stationOf b) where
+  of-block : isHolder p (record { station = s; bag = messages b (word b 16) }) ≡ isHolder p (nodeOf b)
+  unfolding nodeOf
+  of-block = rw is
+
+  pub block-itself : s .number ≡ p → false ≡ isHolder p (nodeOf b)
+  block-itself e = holder-itself p s (messages b (word b 16)) e ∙ of-block
+
+  module _ (other : s .number ≡ p → ⊥) {l : Bool} (l-is : l ≡ isNeighbour p (s .left)) where
+    pub block-left : l ≡ true → true ≡ isHolder p (nodeOf b)
+    block-left e = holder-left p s (messages b (word b 16)) other l-is e ∙ of-block
+
+    module _ (no-left : l ≡ false) {r : Bool} (r-is : r ≡ isNeighbour p (s .right)) where
+      pub block-right : r ≡ true → true ≡ isHolder p (nodeOf b)
+      block-right e = holder-right p s (messages b (word b 16)) other l-is no-left r-is e ∙ of-block
+
+      pub block-introduces : r ≡ false → {t : Bool} → t ≡ holds (introduction p) (messages b (word b 16)) → t ≡ isHolder p (nodeOf b)
+      block-introduces e f = holder-bag p s (messages b (word b 16)) other l-is no-left r-is e f ∙ of-block
+
+-- the order of a bag plays no part
+holds-in-order : (p : ℕ) (s : Node) → isHolder p (withBagInOrder s) ≡ isHolder p s
+unfolding names withBagInOrder
+holds-in-order p s = rw (sort-any precedes (same (introduction p)) (s .bag))
+
+-- none of the first j stations holds p
+pub record NotBefore (p : ℕ) (t : List ℕ) (j : ℕ) : Type 0 where
+  pub is : firstAt (isHolder p) (lineOf t) ≡ j + firstAt (isHolder p) (drop j (lineOf t))
+
+pub not-before-first : (p : ℕ) (t : List ℕ) → NotBefore p t 0
+not-before-first p t = record { is = omega arith }
+
+module _ {p : ℕ} {t : List ℕ} {j : ℕ} (so-far : NotBefore p t j) where
+  -- the block of the station at place j is asked
+  module _ (index : List ℕ) (clean : faultOf t ≡ 0) (listed : index ≡ indexOf t) (h : j < length index) {b : List ℕ} (read : b ≡ blockAt t (slotIn (getD index j 0)))
+      {x : Bool} (tells : x ≡ isHolder p (nodeOf b)) where
+    holds-here : isHolder p (getD (lineOf t) j nobody) ≡ x
+    holds-here = ap (isHolder p) (line-at t index clean listed j h read) ∙ holds-in-order p (nodeOf b) ∙ sym tells
+
+    pub none-next : x ≡ false → NotBefore p t (j + 1)
+    unfolding firstAt
+    none-next e = record { is = so-far .is ∙ rw (line-from t index clean listed j h, holds-here, e) (omega arith) }
+
+    pub holder-found : x ≡ true → j ≡ firstAt (isHolder p) (lineOf t)
+    unfolding firstAt
+    holder-found e = sym (so-far .is ∙ rw (line-from t index clean listed j h, holds-here, e) (omega arith))
+
+  pub none-holds : (index : List ℕ) → faultOf t ≡ 0 → index ≡ indexOf t → length index ≤ j → j ≡ firstAt (isHolder p) (lineOf t)
+  unfolding firstAt
+  none-holds index clean listed h = sym (so-far .is ∙ rw (line-end t index clean listed j h) (omega arith))

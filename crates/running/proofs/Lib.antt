@@ -1,0 +1,2 @@
+-- What the proofs of the loop share.
+pub mod Ending

@@ -1,0 +1,20 @@
+-- The four fields are read where the list holds them.
+use borrow.Author.Needs.{needs}
+use Rattle.steps.proofs.Ways.{step-read}
+use Rattle.steps.proofs.read_step.Statement.{statement}
+use Rattle.steps.proofs.read_step.Tie as tie
+
+pub read-step-spec : {M : Type 1} → statement M
+read-step-spec =
+    tie.close
+    (tie.spec
+    (λ c. search needs)
+    (λ c κs. search needs)
+    (λ c. search needs)
+    (λ c κs. search needs)
+    (λ c. search needs)
+    (λ c κs. search needs)
+    (λ c. search needs)
+    (λ c κs. search needs)
+    (λ c κs. search needs)
+    (λ c. search step-read))
