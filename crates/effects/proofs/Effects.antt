@@ -19,7 +19,7 @@ use Rattle.line.specs.Answer.{refused, done}
 use Rattle.line.specs.Node.{Node, Line, number, numbers, nobody}
 use Rattle.line.specs.Nidec.{nidec}
 use Rattle.line.specs.Step.{step}
-use Rattle.line.proofs.Whole.{step-result}
+use Rattle.line.proofs.Whole.{step-sound}
 use Rattle.line.proofs.Places.{place, withBag}
 use Rattle.bag.specs.declared.Taken.{Taken}
 use Rattle.bag.specs.Held.{ordered}
@@ -233,12 +233,12 @@ module _ {a : Arrays} {x : Step} {i : ℕ} {taken : Taken} {plan : Plan} (k : Pl
           pub stays : d .gone ≡ false → (step line x ≡ done (lineIn a₃)) × BetweenSteps a₃
           stays stay =
               let is = step-stays decided (verdicts .0) c₁ c₂ first-count second-count (verdicts .1) stay ∙ ap done (sym second-line) in
-              (is, record { consistent = second-consistent; sound = step-result line x (k .between .sound) is .sound })
+              (is, record { consistent = second-consistent; sound = step-sound line x (k .between .sound) is })
 
           -- the station goes
           pub leaves : d .gone ≡ true → {index : List ℕ} → Dropped (a .n) i (a .index) index → (step line x ≡ done (lineIn (shortened a₃ index))) × BetweenSteps (shortened a₃ index)
           leaves leave dropped =
               let is =
               step-leaves decided (verdicts .0) c₁ c₂ first-count second-count (verdicts .1) leave ∙ ap done (ap (removeAt i) (sym second-line) ∙ sym (dropped-line second-consistent i dropped)) in
-              let after = step-result line x (k .between .sound) is .sound in
+              let after = step-sound line x (k .between .sound) is in
               (is, record { consistent = dropped-consistent second-consistent i dropped (rw (dropped-numbered second-consistent i dropped) (after .written .rising)); sound = after })

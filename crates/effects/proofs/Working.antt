@@ -26,7 +26,7 @@ use Rattle.line.proofs.Answers.{require-true, require-false, refused-done}
 use Rattle.line.proofs.NidecTest.{nidec-tested}
 use Rattle.line.proofs.Local.{LinksKept, act-links}
 use Rattle.line.proofs.Sends.{Clear, clear-act}
-use Rattle.line.proofs.Whole.{Sound, fit-of}
+use Rattle.line.proofs.Whole.{Sound}
 use Rattle.line.proofs.Changes.{send-append, send-numbers, send-without, apart-across}
 use Rattle.line.proofs.Places.{place, withBag, bag-numbers, find-at, change-at, without-at, untouched}
 use Rattle.lists.specs.Places.{removeAt}
@@ -100,7 +100,7 @@ module _ {line : Line} {x : declared.Step} {i : ℕ} {nidecHolds : Bool} {d : De
     sided = k .sound .accepted .sided here-is there-is
 
     outcome : LinksKept line (number here-is) (Linked here-is) (effect d left .after) (effect d left .sends)
-    outcome = act-links line here-is sided (fit-of (k .sound) here-is there-is) (nidec line here-is) (nidec-tested line here-is .0) (x .action) acted
+    outcome = act-links line here-is sided (k .sound .accepted .small here-is there-is) (nidec line here-is) (nidec-tested line here-is .0) (x .action) acted
 
     clear : Clear (number here-is) (bothSent (d .sendings))
     clear = clear-act here-is sided (nidec line here-is) (x .action) acted

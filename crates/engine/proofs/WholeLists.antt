@@ -12,7 +12,7 @@ use lib.Seq.{take-at}
 use borrow.Author.Tests.{eqb-true, eq-eqb}
 use Rattle.line.specs.Answer.{endingNumber}
 use Rattle.line.specs.Run as machine
-use Rattle.line.specs.Node.{Line, Written, lower, withBagInOrder, inWrittenOrder}
+use Rattle.line.specs.Node.{Line, Present, Written, lower, withBagInOrder, inWrittenOrder}
 use Rattle.line.specs.Accepted.{Accepted}
 use Rattle.line.specs.Links.{Joined}
 use Rattle.lists.proofs.Lists.{map-length, sort-length}
@@ -28,7 +28,7 @@ use Rattle.arrays.proofs.Writing.{written-size}
 use Rattle.steps.specs.Steps.{stepsOf}
 use Rattle.engine.specs.Ran.{listHolds, roomHolds, faultBefore, refusedWith, outcome, tableIn}
 use Rattle.finishing.specs.Ended.{runOf, endedWith}
-use Rattle.engine.specs.Claims.{SameOutcome, ReceiversAgree, JoinedKept, WrittenIsAccepted}
+use Rattle.engine.specs.Claims.{SameOutcome, ReceiversAgree, PresentBefore, JoinedKept, WrittenIsAccepted, WrittenReadsBack}
 
 -- a run that begins has read an accepted table
 pub table-fault : (t steps room : List ℕ) → faultBefore t steps room ≡ 0 → faultOf t ≡ 0
@@ -46,7 +46,9 @@ accepted-outcome t steps room h = rw (eq-eqb (faultBefore t steps room) 0 h) ref
 
 -- that line is accepted and in written order
 pub after-sound : (t steps : List ℕ) → faultOf t ≡ 0 → Accepted ((runOf t steps) .line) × Written ((runOf t steps) .line)
-after-sound t steps h = let a = table-accepted t h in line.run-keeps-accepted (lineOf t) (stepsOf steps) (a .1) (a .2)
+after-sound t steps h =
+    let a = table-accepted t h in
+    (line.run-keeps-accepted (lineOf t) (stepsOf steps) (a .1), line.run-keeps-written (lineOf t) (stepsOf steps) (a .1) (a .2))
 
 -- its bytes begin the room
 table-in-ended : (t steps room : List ℕ) → faultOf t ≡ 0 → tableIn (endedWith (runOf t steps) room) ≡ bytesOf ((runOf t steps) .line)
@@ -67,14 +69,29 @@ read-again t steps room h =
     let w = written-accepted ((runOf t steps) .line) (a .0) (a .1) in
     (ap faultOf e ∙ w .0, ap nodes e ∙ w .1)
 
--- so it is accepted
+-- so it is accepted, and read back it is that line, which is in written order
 pub written-is-accepted : WrittenIsAccepted
 written-is-accepted t steps room h = read-again t steps room h .0
+
+pub written-reads-back : WrittenReadsBack
+written-reads-back t steps room h = (read-again t steps room h .1, after-sound t steps (table-fault t steps room h) .1)
+
+-- a station of the line read has a block in the table
+read-present : (t : List ℕ) → Accepted (nodes t) → (n : ℕ) → Present (lineOf t) n → Present (nodes t) n
+unfolding lineOf
+read-present t ok n = written-order-keeps (nodes t) ok .2 .stations n .1
 
 -- reading joins the stations that the stored order joins
 reading-joins : (t : List ℕ) → faultOf t ≡ 0 → (a b : ℕ) → Joined (nodes t) a b ↔ Joined (lineOf t) a b
 unfolding lineOf
 reading-joins t h = written-order-keeps (nodes t) (table-accepted t h .0) .3
+
+-- a station with a block in the table written has one in the table read
+pub present-before : PresentBefore
+present-before t steps room h n m =
+    let s = table-accepted t (table-fault t steps room h) in
+    let there = line.present-before (lineOf t) (stepsOf steps) (s .1) n (rw (read-again t steps room h .1) at m) in
+    read-present t (s .0) n there
 
 -- reading, the run and writing keep what is joined
 pub joined-kept : JoinedKept
@@ -83,7 +100,7 @@ joined-kept t steps room h a b =
     let s = table-accepted t f in
     let r = reading-joins t f a b in
     rw (read-again t steps room h .1)
-    (λ m n. let k = line.joined-kept (lineOf t) (stepsOf steps) (s .1) (s .2) a b m n in (λ j. k .0 (r .0 j), λ j. r .1 (k .1 j)))
+    (λ m n. let k = line.joined-kept (lineOf t) (stepsOf steps) (s .1) a b m n in (λ j. k .0 (r .0 j), λ j. r .1 (k .1 j)))
 
 -- a table has 512 bytes for each station of its line
 table-length : (t : List ℕ) → faultOf t ≡ 0 → length t ≡ 512 * length (lineOf t)

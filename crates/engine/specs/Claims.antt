@@ -5,13 +5,13 @@ use mathlib.Core.Path.{_≡_}
 use mathlib.Core.Logic.{_↔_}
 use mathlib.Core.List.{List}
 use lib.ListN.{length}
-use Rattle.line.specs.Node.{Present}
+use Rattle.line.specs.Node.{Present, Written}
 use Rattle.line.specs.Links.{Joined}
 use Rattle.line.specs.Alike.{Alike}
 use Rattle.table.specs.Blocks.{nodes}
 use Rattle.table.specs.Fault.{faultOf}
 use Rattle.engine.specs.Ran.{faultBefore, outcome, tableIn}
-use Rattle.finishing.specs.Ended.{Outcome}
+use Rattle.finishing.specs.Ended.{Outcome, runOf}
 
 -- the same answer, counts and written bytes
 pub record SameOutcome (x y : Outcome) : Type 0 where
@@ -27,14 +27,23 @@ ReceiversAgree =
     (t u steps room room′ : List ℕ) → faultOf t ≡ 0 → faultOf u ≡ 0 → Alike (nodes t) (nodes u) → length room ≡ length room′
     → SameOutcome (outcome t steps room) (outcome u steps room′)
 
--- 2. The line is never cut: of a run that writes a table, also one that stopped at a refused step, two stations with blocks in the table
--- written are joined in it exactly when they were joined in the table read.
+-- 2. The line is never cut: of a run that writes a table, also one that stopped at a refused step, stations with blocks in the table
+-- written had blocks in the table read, and two of them are joined in the one exactly when they were joined in the other.
+abbrev pub PresentBefore : Type 0
+PresentBefore =
+    (t steps room : List ℕ) → faultBefore t steps room ≡ 0 → (n : ℕ) → Present (nodes (tableIn (outcome t steps room))) n → Present (nodes t) n
+
 abbrev pub JoinedKept : Type 0
 JoinedKept =
     (t steps room : List ℕ) → faultBefore t steps room ≡ 0
     → (a b : ℕ) → Present (nodes (tableIn (outcome t steps room))) a → Present (nodes (tableIn (outcome t steps room))) b
     → Joined (nodes t) a b ↔ Joined (nodes (tableIn (outcome t steps room))) a b
 
--- 3. What a run writes is accepted when it is read again.
+-- 3. What a run writes is accepted when it is read again; read back it is the line that the steps left, in written order.
 abbrev pub WrittenIsAccepted : Type 0
 WrittenIsAccepted = (t steps room : List ℕ) → faultBefore t steps room ≡ 0 → faultOf (tableIn (outcome t steps room)) ≡ 0
+
+abbrev pub WrittenReadsBack : Type 0
+WrittenReadsBack =
+    (t steps room : List ℕ) → faultBefore t steps room ≡ 0
+    → (nodes (tableIn (outcome t steps room)) ≡ (runOf t steps) .line) × Written ((runOf t steps) .line)

@@ -1,6 +1,6 @@
 -- Laws of answers.
 use mathlib.Core.Path.{_≡_, refl, ap}
-use mathlib.Core.Logic.{_≢_}
+use mathlib.Core.Logic.{_⊎_, inl, inr}
 use mathlib.Core.Bool.{Bool, true, false}
 use Prim.Native.Nat.{ℕ}
 use native.Mathlib.Omega.{arith}
@@ -19,11 +19,19 @@ unfolding _>>=_
 bound (refused r) f e = refused-done e
 bound (done a) f e = (a, refl, e)
 
--- what was refused, and not at the start, was refused after that
-pub bound-refused : {A B : Type 0} (x : Answer A) (f : A → Answer B) {r : Refusal} → x ≢ refused r → (x >>= f) ≡ refused r → (a : A) × (x ≡ done a) × (f a ≡ refused r)
+-- what was refused was refused at the start, or after something was done
+pub bound-refused : {A B : Type 0} (x : Answer A) (f : A → Answer B) {r : Refusal} → (x >>= f) ≡ refused r → (x ≡ refused r) ⊎ ((a : A) × (x ≡ done a) × (f a ≡ refused r))
 unfolding _>>=_
-bound-refused (refused q) f h e = absurd (h (ap refused (cc)))
-bound-refused (done a) f h e = (a, refl, e)
+bound-refused (refused q) f e = inl (ap refused (cc))
+bound-refused (done a) f e = inr (a, refl, e)
+
+pub after-done : {A B : Type 0} {x : Answer A} (f : A → Answer B) {a : A} → x ≡ done a → (x >>= f) ≡ f a
+unfolding _>>=_
+after-done f e = rw e
+
+pub after-refused : {A B : Type 0} {x : Answer A} (f : A → Answer B) {r : Refusal} → x ≡ refused r → (x >>= f) ≡ refused r
+unfolding _>>=_
+after-refused f e = rw e
 
 pub require-true : {A : Type 0} (t : Bool) (r : Refusal) (x : Answer A) → t ≡ true → require t r x ≡ x
 unfolding require
@@ -38,3 +46,9 @@ pub required : {A : Type 0} (t : Bool) (r : Refusal) {x : Answer A} {a : A} → 
 unfolding require
 required true r e = (refl, e)
 required false r e = refused-done e
+
+-- what was refused under a test, or behind it
+pub required-refused : {A : Type 0} (t : Bool) (r : Refusal) {x : Answer A} {q : Refusal} → require t r x ≡ refused q → ((t ≡ false) × (r ≡ q)) ⊎ ((t ≡ true) × (x ≡ refused q))
+unfolding require
+required-refused true r e = inr (refl, e)
+required-refused false r e = inl (refl, cc)

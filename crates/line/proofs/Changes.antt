@@ -8,10 +8,10 @@ use Prim.Native.Nat.{ℕ, suc, _≤_}
 use native.Mathlib.Omega.{arith}
 use native.Mathlib.Decide.{ℕ-discrete}
 use lib.Dec.{eqb, ltb}
-use borrow.Author.Tests.{eqb-true, eqb-false, eq-eqb, ne-eqb, not-true}
+use borrow.Author.Tests.{eqb-true, eqb-false, eq-eqb, ne-eqb, not-true, not-false}
 use lib.ListN.{length}
-use Rattle.lists.specs.Numbers.{Rising, Distinct}
-use Rattle.lists.proofs.Lists.{clash, or-cases, or-right, all-true, true-all, mem-map, map-mem, map-self}
+use Rattle.lists.specs.Numbers.{Pairwise, Distinct}
+use Rattle.lists.proofs.Lists.{clash, or-none, or-cases, or-right, all-true, all-false, true-all, mem-map, map-mem, map-self}
 use Rattle.line.specs.declared.Message.{Message}
 use Rattle.line.specs.declared.Refusal.the-variants.{Absent}
 use Rattle.line.specs.Answer.{refused, done}
@@ -140,12 +140,13 @@ module _ (n : ℕ) where
   pub present-without : (line : Line) {x : ℕ} → Present line x → x ≢ n → Present (without n line) x
   present-without line m h = let w = node-of line m in Memᴰ·cast (w .2) (mem-map number (mem-without line (w .1) (λ e. h (w .2 ∙ e))))
 
-  pub without-rising : (line : Line) → Rising (numbers line) → Rising (numbers (without n line))
+  -- the numbers that stay stand to each other as they did: rising numbers rise, distinct ones are distinct
+  pub without-pairwise : (R : ℕ → ℕ → Type 0) (line : Line) → Pairwise R (numbers line) → Pairwise R (numbers (without n line))
   unfolding without
-  without-rising [] h = tt
-  without-rising (u ∷ line) h = go (eqb (number u) n) (without-rising line (h .1))
+  without-pairwise R [] h = tt
+  without-pairwise R (u ∷ line) h = go (eqb (number u) n) (without-pairwise R line (h .1))
     where
-      go : (b : Bool) → Rising (numbers (without n line)) → Rising (numbers (cond b (without n line) (u ∷ without n line)))
+      go : (b : Bool) → Pairwise R (numbers (without n line)) → Pairwise R (numbers (cond b (without n line) (u ∷ without n line)))
       go true r = r
       go false r = (λ y m. h .0 y (without-present line m .0), r)
 
@@ -189,6 +190,14 @@ module _ (m : Send) (line : Line) where
   room-true e t k h =
       ⊎-elim (λ i. clash (eq-eqb (number t) (m .to) h) (not-true (eqb (number t) (m .to)) i)) (λ i. i)
       (or-cases (not (eqb (number t) (m .to))) (ltb (length (t .bag)) capacity) (all-true roomy e k))
+
+  -- or there is one that does not
+  pub room-false : hasRoom line m ≡ false → (t : Node) × Member t line × (number t ≡ m .to) × (ltb (length (t .bag)) capacity ≡ false)
+  unfolding hasRoom roomy
+  room-false e =
+      let w = all-false roomy line e in
+      let h = or-none (not (eqb (number (w .0)) (m .to))) (ltb (length (w .0 .bag)) capacity) (w .2) in
+      (w .0, w .1, eqb-true (number (w .0)) (m .to) (not-false (eqb (number (w .0)) (m .to)) (h .0)), h .1)
 
   pub true-room : ((t : Node) → Member t line → number t ≡ m .to → ltb (length (t .bag)) capacity ≡ true) → hasRoom line m ≡ true
   unfolding hasRoom roomy

@@ -16,4 +16,5 @@ pub mod WrittenOrder
 pub mod AcceptedTest
 pub mod InLineTest
 pub mod ReportLocal
+pub mod Causes
 pub mod Report

@@ -48,10 +48,6 @@ pub record Fair (P Q : ℕ → Type 0) (l : List Send) : Type 0 where
   pub reaches : (m : Send) → Member m l → P (m .to)
   pub says : (x y : ℕ) → Sent l x y → Q y
 
--- a bag within its bound and in written order
-abbrev pub Fit : List Message → Type 0
-Fit b = (length b ≤ capacity) × Ordered precedes b
-
 abbrev pub SelfOr : ℕ → (ℕ → Type 0) → ℕ → Type 0
 SelfOr n P y = (y ≡ n) ⊎ P y
 
@@ -60,7 +56,7 @@ pub record Remains (n : ℕ) (P : ℕ → Type 0) (s : Node) (l : List Send) : T
   pub fair : Fair P (SelfOr n P) l
   pub named : number s ≡ n
   pub sided : Sided s
-  pub fit : Fit (s .bag)
+  pub small : length (s .bag) ≤ capacity
   pub fewer : (y : ℕ) → Linked s y → P y
   pub joined : (y : ℕ) → P y → Chain (Edge s l) n y
 
@@ -111,10 +107,10 @@ no-removal Right e = absurd (let z = ap (λ (m : Message). m .content) e in let 
 abbrev AfterDelivery : (ℕ → Type 0) → List Message → declared.Station → Reaction → Type 0
 AfterDelivery P b p r = Remains (p .number) P (node (r .station) b) (r .sends)
 
-module _ (p : declared.Station) (b : List Message) (ok : Sided (node p b)) (fit : Fit b) (P : ℕ → Type 0) (keep : (y : ℕ) → Linked (node p b) y → P y) where
+module _ (p : declared.Station) (b : List Message) (ok : Sided (node p b)) (small : length b ≤ capacity) (P : ℕ → Type 0) (keep : (y : ℕ) → Linked (node p b) y → P y) where
   -- the station as it is
   still : (l : List Send) → Fair P (SelfOr (p .number) P) l → ((y : ℕ) → P y → Chain (Edge (node p b) l) (p .number) y) → Remains (p .number) P (node p b) l
-  still l f j = record { fair = f; named = refl; sided = ok; fit = fit; fewer = keep; joined = j }
+  still l f j = record { fair = f; named = refl; sided = ok; small = small; fewer = keep; joined = j }
 
   -- the station with another neighbour k on side d
   module _ (d : Side) (k : Neighbour) (l : List Send) where
@@ -128,7 +124,7 @@ module _ (p : declared.Station) (b : List Message) (ok : Sided (node p b)) (fit 
       fair = f;
       named = changed-number d k p;
       sided = changed-sided d k p b ok (λ q e. g q e .0);
-      fit = fit;
+      small = small;
       fewer = λ y h. ⊎-elim (λ e. g y e .1) (keep y) (changed-links d k p b h);
       joined = j;
     }
@@ -211,7 +207,7 @@ module _ (p : declared.Station) (b : List Message) (ok : Sided (node p b)) (fit 
         go true = dropped-kept d (neighbour d p) refl
         go false = as-it-is
 
-module _ (line : Line) (s : Node) (ok : Sided s) (fit : Fit (s .bag)) where
+module _ (line : Line) (s : Node) (ok : Sided s) (small : length (s .bag) ≤ capacity) where
   -- timeout
   notice-says : (d : Side) (y : ℕ) → introduction y ≡ notice (s .station) d → y ≡ number s
   unfolding notice
@@ -224,7 +220,7 @@ module _ (line : Line) (s : Node) (ok : Sided s) (fit : Fit (s .bag)) where
   timeout-kept : Remains (number s) (Linked s) s (timeout (s .station))
   unfolding timeout
   timeout-kept =
-      still (s .station) (s .bag) ok fit (Linked s) (λ y h. h)
+      still (s .station) (s .bag) ok small (Linked s) (λ y h. h)
       (sendTo (s .station .left) (notice (s .station) Left) ++ sendTo (s .station .right) (notice (s .station) Right))
       (fair-two s refl refl (notice (s .station) Left) (notice (s .station) Right) (λ y z. inl (notice-says Left y z)) (λ y z. inl (notice-says Right y z)))
       (λ y h. forward (own refl h))
@@ -242,8 +238,8 @@ module _ (line : Line) (s : Node) (ok : Sided s) (fit : Fit (s .bag)) where
     whole : (d : Side) → m ≡ removal d → (y : ℕ) → Linked s y → Linked (node (s .station) b) y
     whole d e y h = ⊎-elim (λ z. no-removal d (z ∙ e)) (λ i. i) (split y h)
 
-    fit-after : Fit b
-    fit-after = (omega (arith, o .size, fit .0), o .order (fit .1))
+    small-after : length b ≤ capacity
+    small-after = omega (arith, o .size)
 
     message-is : (c : Content) → m .content ≡ c → m ≡ record { content = c }
     message-is c e = ap (λ (z : Content). record { content = z }) e
@@ -254,10 +250,10 @@ module _ (line : Line) (s : Node) (ok : Sided s) (fit : Fit (s .bag)) where
       where
         go : (c : Content) → m .content ≡ c → AfterDelivery (Linked s) b (s .station) (received (s .station) c)
         go (Introduction q) e =
-            introduced-kept (s .station) b ok fit-after (Linked s) keep q (by-introduction (rw (← message-is (Introduction q) e) was))
+            introduced-kept (s .station) b ok small-after (Linked s) keep q (by-introduction (rw (← message-is (Introduction q) e) was))
             (λ y h. ⊎-elim (λ z. inl (introduction-inj (z ∙ message-is (Introduction q) e))) inr (split y h))
-        go RemoveLeft e = removed-kept (s .station) b ok fit-after (Linked s) keep (whole Left (message-is RemoveLeft e)) Left
-        go RemoveRight e = removed-kept (s .station) b ok fit-after (Linked s) keep (whole Right (message-is RemoveRight e)) Right
+        go RemoveLeft e = removed-kept (s .station) b ok small-after (Linked s) keep (whole Left (message-is RemoveLeft e)) Left
+        go RemoveRight e = removed-kept (s .station) b ok small-after (Linked s) keep (whole Right (message-is RemoveRight e)) Right
 
   -- exit
   module _ (nidecHolds : Nidec line s) where
@@ -301,10 +297,14 @@ module _ (line : Line) (s : Node) (ok : Sided s) (fit : Fit (s .bag)) where
       subst (λ (e : Effect). LinksKept line (number s) (Linked s) (e .after) (e .sends)) (done-inj (w .1))
       (exit-gone (n (w .0)) (s .station .left) (s .station .right) refl refl)
 
--- No action changes what a station carries.
-abbrev pub MarksKept : Node → Option Node → Type 0
-MarksKept s none = Unit {0}
-MarksKept s (some t) = t .station .marks ≡ s .station .marks
+-- What no action changes: what a station carries, and that its bag is in written order.
+pub record Keeps (s t : Node) : Type 0 where
+  pub marks : t .station .marks ≡ s .station .marks
+  pub order : Ordered precedes (s .bag) → Ordered precedes (t .bag)
+
+abbrev pub KeepsIfThere : Node → Option Node → Type 0
+KeepsIfThere s none = Unit {0}
+KeepsIfThere s (some t) = Keeps s t
 
 module _ (p : declared.Station) where
   met-marks : (d : Side) (q : ℕ) (k : Neighbour) → (meet d p q k) .station .marks ≡ p .marks
@@ -335,9 +335,10 @@ module _ (p : declared.Station) where
   received-marks RemoveLeft = either-marks (obeys Left p) (dropNeighbour Left p (neighbour Left p)) (unchanged p) (dropped-marks Left (neighbour Left p)) refl
   received-marks RemoveRight = either-marks (obeys Right p) (dropNeighbour Right p (neighbour Right p)) (unchanged p) (dropped-marks Right (neighbour Right p)) refl
 
-pub act-marks : (nidecHolds : Bool) (s : Node) (a : Action) {e : Effect} → act nidecHolds s a ≡ done e → MarksKept s (e .after)
+pub act-keeps : (nidecHolds : Bool) (s : Node) (a : Action) {e : Effect} → act nidecHolds s a ≡ done e → KeepsIfThere s (e .after)
 unfolding act
-act-marks nidecHolds s Timeout h = subst (λ (e : Effect). MarksKept s (e .after)) (done-inj h) refl
-act-marks nidecHolds s (Deliver m) h =
-    subst (λ (e : Effect). MarksKept s (e .after)) (done-inj (required (holds m (s .bag)) NotInBag h .1)) (received-marks (s .station) (m .content))
-act-marks nidecHolds s Exit h = subst (λ (e : Effect). MarksKept s (e .after)) (done-inj (required nidecHolds Held (required (leaving s) Staying h .1) .1)) tt
+act-keeps nidecHolds s Timeout h = subst (λ (e : Effect). KeepsIfThere s (e .after)) (done-inj h) (record { marks = refl; order = λ o. o })
+act-keeps nidecHolds s (Deliver m) h =
+    subst (λ (e : Effect). KeepsIfThere s (e .after)) (done-inj (required (holds m (s .bag)) NotInBag h .1))
+    (record { marks = received-marks (s .station) (m .content); order = gives-up m (s .bag) .order })
+act-keeps nidecHolds s Exit h = subst (λ (e : Effect). KeepsIfThere s (e .after)) (done-inj (required nidecHolds Held (required (leaving s) Staying h .1) .1)) tt

@@ -27,18 +27,19 @@ use Rattle.line.specs.Answer.{Answer, refused, done, _>>=_, require}
 use Rattle.line.specs.Message.{introduction, removal, holds, remove, put}
 use Rattle.line.specs.Node.{Node, Line, number, leaving}
 use Rattle.line.specs.Nidec.{nidec}
-use Rattle.line.specs.Accepted.{Sided}
+use Rattle.line.specs.Accepted.{Sided, Accepted}
 use Rattle.line.specs.Act.{Send, sendTo, notice, timeout, received, introduceBoth, Effect, kept, act}
 use Rattle.line.specs.Step.{find, change, replace, withMessage, sendAll, hasRoom, commit, step}
 use Rattle.line.specs.Report as report
 use Rattle.line.specs.Report.{process, isProcess, remleft, remright, Intro, Req, mail, Process, p, left, right, intro, req, not-leaving, defined, _and_, _⨾_, if_then_, if_then_else_, send_to_, exited, exit, handle, command, Guard, leftId, rightId, processOf, nodeOf, stateAfter, Fires}
 use Rattle.line.specs.Claims.{WithinCapacity, ReportAgrees, Apart}
 use Rattle.lists.proofs.Lists.{fails, true-all}
-use Rattle.line.proofs.Answers.{done-inj, refused-done, bound, bound-refused, require-true, require-false, required}
+use Rattle.line.proofs.Answers.{done-inj, refused-done, bound, require-true, require-false, required}
 use Rattle.line.proofs.Messages.{held-mem, mem-held, receives, room-for}
 use Rattle.line.proofs.Sends.{Clear, clear-act}
 use Rattle.line.proofs.NidecTest.{nidec-tested}
-use Rattle.line.proofs.Whole.{Sound, Room, step-result}
+use Rattle.line.proofs.Whole.{Room, step-result}
+use Rattle.line.proofs.Causes.{refused-exactly}
 use Rattle.line.proofs.Changes.{found, member-found, takes-it, change-same, change-other, keeps-other, mem-without, receive-number, true-room}
 use Rattle.line.proofs.ReportLocal.{Matches, start, request-matches, introduce-matches, id-back, idOn}
 
@@ -189,32 +190,6 @@ module _ (line : Line) (s : Node) where
     require-true (leaving s) Staying _ (h .1) ∙ require-true (nidec line s) Held _ (nidec-tested line s .1 (h .0)),
   )
 
-  -- what a station does by itself is never refused for want of room
-  required-not-full : {A : Type 0} (t : Bool) (r : Refusal) (x : Answer A) → r ≢ Full → x ≢ refused Full → require t r x ≢ refused Full
-  unfolding require
-  required-not-full true r x f g h = g h
-  required-not-full false r x f g h = f (cc)
-
-  done-not-full : {A : Type 0} {x : A} → done x ≢ refused Full
-  done-not-full h = let z : _≡_ {A = ℕ} 0 1 = cc in omega arith
-
-  never-full : (a : Action) → act (nidec line s) s a ≢ refused Full
-  unfolding act
-  never-full Timeout = done-not-full
-  never-full (Deliver m) = required-not-full (holds m (s .bag)) NotInBag _ (λ h. let z : _≡_ {A = ℕ} 0 1 = cc in omega arith) done-not-full
-  never-full Exit =
-      required-not-full (leaving s) Staying _ (λ h. let z : _≡_ {A = ℕ} 0 1 = cc in omega arith)
-      (required-not-full (nidec line s) Held _ (λ h. let z : _≡_ {A = ℕ} 0 1 = cc in omega arith) done-not-full)
-
-find-not-full : (n : ℕ) (line : Line) → find n line ≢ refused Full
-unfolding find
-find-not-full n [] h = let z : _≡_ {A = ℕ} 0 1 = cc in omega arith
-find-not-full n (s ∷ line) h = go (eqb (number s) n) (find-not-full n line) h
-  where
-    go : (t : Bool) → find n line ≢ refused Full → cond t (done s) (find n line) ≢ refused Full
-    go true f h = let z : _≡_ {A = ℕ} 0 1 = cc in omega arith
-    go false f h = f h
-
 receive-bag : (m : Message) (t : Node) → (withMessage m t) .bag ≡ put m (t .bag)
 unfolding withMessage
 receive-bag m t = refl
@@ -276,7 +251,7 @@ within-room line n e c w = true-all (hasRoom line) (e .sends) (λ m i. room-has 
         omega (arith, g .received m i (sym z), w (g .node) (g .member))
 
 -- The step in its parts: the station found, its effect, and what is committed.
-module _ (line : Line) (x : steps.Step) (ok : Sound line) where
+module _ (line : Line) (x : steps.Step) (ok : Accepted line) where
   record Parts : Type 0 where
     node : Node
     member : Member node line
@@ -296,7 +271,7 @@ module _ (line : Line) (x : steps.Step) (ok : Sound line) where
     step-is = rw (q .finds, q .acts) refl
 
     sided : Sided (q .node)
-    sided = ok .accepted .sided (q .node) (q .member)
+    sided = ok .sided (q .node) (q .member)
 
     fires : Fires line x after
     unfolding after
@@ -316,7 +291,7 @@ module _ (line : Line) (x : steps.Step) (ok : Sound line) where
     is-done e = step-is ∙ require-true room Full (done after) e
 
     done-within : room ≡ true → WithinCapacity after
-    done-within e = step-result line x ok (is-done e) .sound .accepted .small
+    done-within e = step-result line x ok (is-done e) .accepted .small
 
   -- whatever fires has its parts
   parts-of : {after : Line} → Fires line x after → Parts
@@ -325,14 +300,14 @@ module _ (line : Line) (x : steps.Step) (ok : Sound line) where
       record {
         node = f .node;
         member = f .member;
-        finds = member-found (x .station) line (ok .accepted .distinct) (f .member) (f .named);
+        finds = member-found (x .station) line (ok .distinct) (f .member) (f .named);
         effect = a .0;
         acts = a .1;
       }
 
   leads-there : {s : Line} (f : Fires line x s) → s ≡ after (parts-of f)
   unfolding after parts-of
-  leads-there f = f .result ∙ agrees line (f .node) (ok .accepted .sided (f .node) (f .member)) (nidec line (f .node)) (x .action) (allowed line (f .node) (x .action) (f .guard) .1)
+  leads-there f = f .result ∙ agrees line (f .node) (ok .sided (f .node) (f .member)) (nidec line (f .node)) (x .action) (allowed line (f .node) (x .action) (f .guard) .1)
 
   -- the parts of a step that is done, or refused for want of room
   parts-done : {s : Line} → step line x ≡ done s → Parts
@@ -343,18 +318,19 @@ module _ (line : Line) (x : steps.Step) (ok : Sound line) where
       record { node = w .0; member = found (x .station) line (w .1) .0; finds = w .1; effect = v .0; acts = v .1 }
 
   parts-full : step line x ≡ refused Full → Parts
-  unfolding step
   parts-full e =
-      let w = bound-refused (find (x .station) line) (λ (s : Node). act (nidec line s) s (x .action) >>= (λ (e : Effect). commit line (number s) e)) (find-not-full (x .station) line) e in
-      let v = bound-refused (act (nidec line (w .0)) (w .0) (x .action)) (λ (e : Effect). commit line (number (w .0)) e) (never-full line (w .0) (x .action)) (w .2) in
-      record { node = w .0; member = found (x .station) line (w .1) .0; finds = w .1; effect = v .0; acts = v .1 }
+      let c = refused-exactly line x Full ok .0 e in
+      record {
+        node = c .block;
+        member = c .member;
+        finds = member-found (x .station) line (ok .distinct) (c .member) (c .named);
+        effect = c .holds .0;
+        acts = c .holds .1;
+      }
 
 pub report-agrees : ReportAgrees
-report-agrees line x a w = (λ s. (done-fires s, λ f. fires-done s (f .0) (f .1)), (full-fires, λ f. fires-full (f .0) (f .1) (f .2)))
+report-agrees line x ok = (λ s. (done-fires s, λ f. fires-done s (f .0) (f .1)), (full-fires, λ f. fires-full (f .0) (f .1) (f .2)))
   where
-    ok : Sound line
-    ok = record { accepted = a; written = w }
-
     done-fires : (s : Line) → step line x ≡ done s → Fires line x s × WithinCapacity s
     done-fires s e =
         let q = parts-done line x ok e in

@@ -1,8 +1,8 @@
 -- Whole runs: one induction over the list of readings, and what follows from it. What each step that is done keeps, a run keeps, also one
 -- that stops at a refusal; machines that answer alike have runs that end alike; and a run goes on with the readings that are left.
-use mathlib.Core.Path.{_≡_, refl, sym, _∙_, ap}
+use mathlib.Core.Path.{_≡_, refl, sym, _∙_, ap, subst}
 use mathlib.Core.List.{List, [], _∷_, map}
-use Prim.Native.Nat.{ℕ, suc, _+_, _-_, _≤_, _<_}
+use Prim.Native.Nat.{ℕ, zero, suc, _+_, _-_, _≤_, _<_}
 use native.Mathlib.Omega.{arith}
 use lib.ListN.{take}
 use Rattle.lists.specs.Places.{range}
@@ -14,11 +14,12 @@ use Rattle.line.specs.declared.Ending.{Ending}
 use Rattle.line.specs.declared.Ending.the-variants.{Complete, Stopped}
 use Rattle.line.specs.Answer.{Answer, refused, done}
 use Rattle.line.specs.Node.{Line}
-use Rattle.line.specs.Run.{try, Run, run}
-use Rattle.line.specs.Claims.{RunKeepsAccepted, JoinedKept, RefusedChangesNothing, StepsDoneAlone}
+use Rattle.line.specs.Run.{try, Run, run, Leads, EndsAt, IsRun}
+use Rattle.line.specs.Accepted.{Accepted}
+use Rattle.line.specs.Claims.{RunKeepsAccepted, RunKeepsWritten, PresentBefore, JoinedKept, RunPinned}
 use Rattle.line.proofs.Answers.{refused-done}
 use Rattle.line.proofs.Chains.{forward, carry}
-use Rattle.line.proofs.Whole.{Sound, Result, step-result}
+use Rattle.line.proofs.Whole.{Result, step-result}
 
 -- A machine answers a reading in a state, whatever its states are: lines, or arrays that hold one. Its course over a list of readings is
 -- what `run` is of the machine `try`.
@@ -161,57 +162,87 @@ run-simulates R alike l a b h =
     let v = course-simulates R try try alike l a b h in
     rw (run-course l a, run-course l b) (record { ending = v .ending; steps = v .steps; lines = v .states })
 
--- what a step or a run does to an accepted line in written order
-unchanged : {line : Line} → Sound line → Result line line
-unchanged ok = record { sound = ok; remain = λ x m. m; backed = λ x y h. forward h; stays = λ a b m n j. j }
+-- what a step or a run does to an accepted line
+unchanged : {line : Line} → Accepted line → Result line line
+unchanged ok = record { accepted = ok; written = λ w. w; remain = λ x m. m; backed = λ x y h. forward h; stays = λ a b m n j. j }
 
 then : {line mid after : Line} → Result line mid → Result mid after → Result line after
 then r t = record {
-  sound = t .sound;
+  accepted = t .accepted;
+  written = λ w. t .written (r .written w);
   remain = λ x m. r .remain x (t .remain x m);
   backed = λ x y h. carry (r .backed) (t .backed x y h);
   stays = λ a b m n j. t .stays a b m n (r .stays a b (t .remain a m) (t .remain b n) j);
 }
 
-try-result : (line : Line) (x : Reading) {after : Line} → Sound line → try line x ≡ done after → Result line after
+try-result : (line : Line) (x : Reading) {after : Line} → Accepted line → try line x ≡ done after → Result line after
 unfolding try
 try-result line (Step x) ok e = step-result line x ok e
 try-result line (Refused r) ok e = refused-done e
 
-pub run-result : (l : List Reading) (line : Line) → Sound line → Result line ((run line l) .line)
+run-result : (l : List Reading) (line : Line) → Accepted line → Result line ((run line l) .line)
 run-result l line ok =
-    run-relates Sound Result (λ a. unchanged) (λ a b c. then) (λ a b x h e. let r = try-result a x h e in (r .sound, r)) l line ok .1
+    run-relates Accepted Result (λ a. unchanged) (λ a b c. then) (λ a b x h e. let r = try-result a x h e in (r .accepted, r)) l line ok .1
 
 pub run-keeps-accepted : RunKeepsAccepted
-run-keeps-accepted line l a w = let r = run-result l line (record { accepted = a; written = w }) .sound in (r .accepted, r .written)
+run-keeps-accepted line l ok = run-result l line ok .accepted
+
+pub run-keeps-written : RunKeepsWritten
+run-keeps-written line l ok w = run-result l line ok .written w
+
+pub present-before : PresentBefore
+present-before line l ok = run-result l line ok .remain
 
 pub joined-kept : JoinedKept
-joined-kept line l x w a b m n =
-    let r = run-result l line (record { accepted = x; written = w }) in
+joined-kept line l ok a b m n =
+    let r = run-result l line ok in
     (r .stays a b m n, carry (r .backed))
 
-pub refused-changes-nothing : RefusedChangesNothing
-refused-changes-nothing line x l r e = run-next line x l ∙ ap (next line l) e
+-- What a run is, and nothing else.
+abbrev pub ended : Ending → ℕ → Line → Run
+ended e k line = record { ending = e; steps = k; line = line }
 
--- the first steps of the list, as many as were done, are all done and leave the same line
-pub steps-done-alone : StepsDoneAlone
+-- one reading more in front
+ends-later : (x : Reading) (l : List Reading) (n : ℕ) (line : Line) (e : Ending) → EndsAt l n line e → EndsAt (x ∷ l) (suc n) line e
+ends-later x l n line Complete h = ap suc h
+ends-later x l n line (Stopped r) h = h
+
+is-run : (l : List Reading) (line : Line) → IsRun line l (run line l)
+is-run l line =
+    rw (run-course l line)
+    (course-induct try (λ line l c. IsRun line l (toRun c)) (λ line. record { leads = refl; ends = refl })
+    (λ line x l r e. record { leads = refl; ends = (x, l, refl, e) })
+    (λ line after x l c e h. record { leads = (after, e, h .leads); ends = ends-later x l (c .steps) (c .state) (c .ending) (h .ends) }) l line)
+
+ends-sooner : (x : Reading) (l : List Reading) (n : ℕ) (line : Line) (e : Ending) → EndsAt (x ∷ l) (suc n) line e → EndsAt l n line e
+ends-sooner x l n line Complete h = cc
+ends-sooner x l n line (Stopped r) h = h
+
+at-once : (l : List Reading) (line : Line) (e : Ending) → EndsAt l 0 line e → run line l ≡ ended e 0 line
 unfolding run
-steps-done-alone line l = rw (run-course l line) (course-induct try Alone (λ line. refl) (λ line x l r e. refl) more l line)
-  where
-    Alone : Line → List Reading → Course Line → Type 0
-    Alone line l c = run line (take (c .steps) l) ≡ record { ending = Complete; steps = c .steps; line = c .state }
+at-once [] line Complete h = refl
+at-once [] line (Stopped r) h = absurd (let z : _≡_ {A = ℕ} 0 1 = cc in omega arith)
+at-once (x ∷ l) line Complete h = absurd (omega arith)
+at-once (x ∷ l) line (Stopped r) h =
+    let z : x ≡ h .0 = cc in
+    let e : try line x ≡ refused r = rw z (h .3) in
+    run-next line x l ∙ ap (next line l) e
 
-    more : (line after : Line) (x : Reading) (l : List Reading) (c : Course Line) → try line x ≡ done after → Alone after l c → Alone line (x ∷ l) (after-one c)
-    more line after x l c e h =
-        run-next line x (take (c .steps) l) ∙ ap (next line (take (c .steps) l)) e
-        ∙ ap (λ (r : Run). record { ending = r .ending; steps = suc (r .steps); line = r .line }) h
+only-run : (l : List Reading) (line : Line) (n : ℕ) (after : Line) (e : Ending) → Leads (take n l) line after → EndsAt l n after e → run line l ≡ ended e n after
+unfolding run
+only-run l line zero after e h k = rw (← h) (at-once l line e (rw (← h) at k))
+only-run [] line (suc n) after Complete h k = absurd (omega arith)
+only-run [] line (suc n) after (Stopped r) h k = absurd (let z : _≡_ {A = ℕ} 0 1 = cc in omega arith)
+only-run (x ∷ l) line (suc n) after e h k =
+    run-next line x l ∙ ap (next line l) (h .1)
+    ∙ ap (λ (r : Run). record { ending = r .ending; steps = suc (r .steps); line = r .line }) (only-run l (h .0) n after e (h .2) (ends-sooner x l n after e k))
+
+pub run-pinned : RunPinned
+run-pinned line l r = (λ e. subst (IsRun line l) e (is-run l line), λ h. only-run l line (r .steps) (r .line) (r .ending) (h .leads) (h .ends))
 
 -- A run under way: k steps were done, r is the whole run, and l are the readings that are left.
 unfoldable pub ahead : ℕ → Run → Run
 ahead k r = record { ending = r .ending; steps = k + r .steps; line = r .line }
-
-abbrev pub ended : Ending → ℕ → Line → Run
-ended e k line = record { ending = e; steps = k; line = line }
 
 pub run-starts : (r : Run) → r ≡ ahead 0 r
 unfolding ahead

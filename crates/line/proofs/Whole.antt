@@ -5,48 +5,46 @@ use mathlib.Core.Bool.{true, cond}
 use mathlib.Core.Option.{Option, none, some}
 use mathlib.Core.List.{List, [], _∷_, map, List·Memᴰ·not-nil, List·Memᴰ·cases-cons, Memᴰ·cast}
 use mathlib.Core.List.{List·Memᴰ as Member, List·Memᴰ·head as here, List·Memᴰ·tail as there}
-use Prim.Native.Nat.{ℕ, _≤_}
+use Prim.Native.Nat.{ℕ, _≤_, _<_}
 use native.Mathlib.Omega.{arith}
 use native.Mathlib.Decide.{ℕ-discrete}
 use lib.Dec.{eqb}
 use borrow.Author.Tests.{eq-eqb, ne-eqb}
 use lib.ListN.{length}
-use Rattle.lists.proofs.Distinct.{rising-distinct}
 use Rattle.line.specs.declared.Message.{Message}
 use Rattle.line.specs.declared.Refusal.the-variants.{Full}
 use Rattle.line.specs.declared.Step as declared
-use Rattle.lists.specs.Lists.{all}
+use Rattle.lists.specs.Lists.{all, Ordered}
 use Rattle.line.specs.Answer.{done, _>>=_}
-use Rattle.line.specs.Message.{introduction, put, capacity}
+use Rattle.line.specs.Message.{introduction, precedes, put, capacity}
 use Rattle.line.specs.Marks.{marksHold}
 use Rattle.line.specs.Node.{Node, Line, number, numbers, Present, Written}
-use Rattle.lists.specs.Numbers.{Rising}
+use Rattle.lists.specs.Numbers.{Distinct}
 use Rattle.line.specs.Links.{Linked, by-neighbour, by-introduction, Link, link, same-station, along, against, Joined}
 use Rattle.line.specs.Nidec.{nidec}
 use Rattle.line.specs.Accepted.{Sided, Accepted}
 use Rattle.line.specs.Act.{Send, Effect, act}
 use Rattle.line.specs.Step.{find, change, without, replace, withMessage, sendAll, hasRoom, commit, step}
-use Rattle.line.specs.Claims.{Apart, StepKeepsAccepted}
+use Rattle.line.specs.Claims.{Apart, StepKeepsAccepted, StepKeepsWritten}
 use Rattle.lists.proofs.Lists.{all-true, mem-map, map-length}
 use Rattle.line.proofs.Answers.{bound, required, done-inj}
 use Rattle.line.proofs.Messages.{receives, room-for}
 use Rattle.line.proofs.Chains.{forward, equal, append, transport, carry}
 use Rattle.line.proofs.NidecTest.{nidec-tested}
-use Rattle.line.proofs.Changes.{node-of, unique, found, changed-mem, keeps-other, takes-it, changed-numbers, changed-all, receive-number, without-mem, mem-without, without-present, present-without, without-rising, without-length, room-true}
+use Rattle.line.proofs.Changes.{node-of, unique, found, changed-mem, keeps-other, takes-it, changed-numbers, changed-all, receive-number, without-mem, mem-without, without-present, present-without, without-pairwise, without-length, room-true}
 use Rattle.line.proofs.Sends.{Clear, clear-act}
-use Rattle.line.proofs.Local.{Sent, Edge, own, sent, Fair, Fit, SelfOr, Remains, Gone, LinksKept, act-links, MarksKept, act-marks}
-
--- What the laws below need of a line: it is accepted and in written order.
-pub record Sound (line : Line) : Type 0 where
-  pub accepted : Accepted line
-  pub written : Written line
-
-pub fit-of : {line : Line} → Sound line → (s : Node) → Member s line → Fit (s .bag)
-fit-of ok s m = (ok .accepted .small s m, ok .written .bags s m)
+use Rattle.line.proofs.Local.{Sent, Edge, own, sent, Fair, SelfOr, Remains, Gone, LinksKept, act-links, Keeps, KeepsIfThere, act-keeps}
 
 -- its marks are inside the layout
 abbrev Marked : Node → Type 0
 Marked s = marksHold (s .station .marks) ≡ true
+
+-- its bag is within its bound; its bag is in written order
+abbrev Small : Node → Type 0
+Small s = length (s .bag) ≤ capacity
+
+abbrev InOrder : Node → Type 0
+InOrder s = Ordered precedes (s .bag)
 
 -- numbers
 source : {line : Line} {x y : ℕ} → Link line x y → Present line x
@@ -84,9 +82,13 @@ receive-marked : (m : Message) (t : Node) → Marked t → Marked (withMessage m
 unfolding withMessage
 receive-marked m t h = h
 
-receive-fit : (m : Message) (t : Node) → Fit (t .bag) → length (put m (t .bag)) ≤ capacity → Fit ((withMessage m t) .bag)
+receive-small : (m : Message) (t : Node) → length (put m (t .bag)) ≤ capacity → Small (withMessage m t)
 unfolding withMessage
-receive-fit m t f h = (h, receives m (t .bag) .order (f .1))
+receive-small m t h = h
+
+receive-order : (m : Message) (t : Node) → InOrder t → InOrder (withMessage m t)
+unfolding withMessage
+receive-order m t h = receives m (t .bag) .order h
 
 module _ (n : ℕ) (m : Message) (line : Line) where
   posted : Line
@@ -137,7 +139,8 @@ pub record Posted (line : Line) (l : List Send) (after : Line) : Type 0 where
   pub arrives : (x y : ℕ) → Sent l x y → Present line x → Link after x y
   pub sided : ((s : Node) → Member s line → Sided s) → (s : Node) → Member s after → Sided s
   pub marked : ((s : Node) → Member s line → Marked s) → (s : Node) → Member s after → Marked s
-  pub fit : ((s : Node) → Member s line → Fit (s .bag)) → (s : Node) → Member s after → Fit (s .bag)
+  pub small : ((s : Node) → Member s line → Small s) → (s : Node) → Member s after → Small s
+  pub order : ((s : Node) → Member s line → InOrder s) → (s : Node) → Member s after → InOrder s
 
 sent-all : (l : List Send) (line : Line) → Apart l → ((m : Send) → Member m l → Room line m) → Posted line l (sendAll l line)
 unfolding sendAll posted
@@ -148,7 +151,8 @@ sent-all [] line a r = record {
   arrives = λ x y k. absurd (List·Memᴰ·not-nil k);
   sided = λ h. h;
   marked = λ h. h;
-  fit = λ h. h;
+  small = λ h. h;
+  order = λ h. h;
 }
 sent-all (m ∷ l) line a r =
     go (sent-all l (posted (m .to) (m .message) line) (a .1) (λ k i. posted-room (m .to) (m .message) line k (a .0 k i) (r k (there i))))
@@ -168,42 +172,41 @@ sent-all (m ∷ l) line a r =
           (λ n. p .arrives x y n (rw posted-numbers h)) (List·Memᴰ·cases-cons k);
       sided = λ h. p .sided (changed-all (m .to) (withMessage (m .message)) Sided line h (λ t k q. receive-sided (m .message) t (h t k)));
       marked = λ h. p .marked (changed-all (m .to) (withMessage (m .message)) Marked line h (λ t k q. receive-marked (m .message) t (h t k)));
-      fit = λ h. p .fit (changed-all (m .to) (withMessage (m .message)) (λ (t : Node). Fit (t .bag)) line h
-          (λ t k q. receive-fit (m .message) t (h t k) (r m (here refl) t k q)));
+      small = λ h. p .small (changed-all (m .to) (withMessage (m .message)) Small line h (λ t k q. receive-small (m .message) t (r m (here refl) t k q)));
+      order = λ h. p .order (changed-all (m .to) (withMessage (m .message)) InOrder line h (λ t k q. receive-order (m .message) t (h t k)));
     }
 
 numbers-length : (a b : Line) → numbers a ≡ numbers b → length a ≡ length b
 numbers-length a b e = sym (map-length number a) ∙ ap length e ∙ map-length number b
 
--- What a step, or a run, has done to a line.
+-- What a step, or a run, has done to an accepted line.
 pub record Result (line after : Line) : Type 0 where
-  pub sound : Sound after
+  pub accepted : Accepted after
+  pub written : Written line → Written after
   pub remain : (x : ℕ) → Present after x → Present line x
   pub backed : (x y : ℕ) → Link after x y → Joined line x y
   pub stays : (a b : ℕ) → Present after a → Present after b → Joined line a b → Joined after a b
 
--- a line is sound again if its nodes are and it names nobody but present ones
-sound-again : {line after : Line} → Sound line → length after ≤ length line → Rising (numbers after) → ((x : ℕ) → Present after x → Present line x)
-    → ((s : Node) → Member s after → Sided s) → ((s : Node) → Member s after → Marked s) → ((s : Node) → Member s after → Fit (s .bag)) → ((x y : ℕ) → Link after x y → Present after y) → Sound after
-sound-again {line} {after} ok few up remain sided marked fit known = record {
-  accepted = record {
-    few = omega (arith, ok .accepted .few, few);
-    ranged = λ s m. let w = node-of line (remain (number s) (mem-map number m)) in rw (w .2) (ok .accepted .ranged (w .0) (w .1));
-    marked = marked;
-    small = λ s m. fit s m .0;
-    sided = sided;
-    distinct = rising-distinct (numbers after) up;
-    known = λ s m q l. known (number s) q (link s m refl l);
-  };
-  written = record { rising = up; bags = λ s m. fit s m .1 };
+-- a line is accepted again if its nodes are as they must be and it names nobody but present ones
+accepted-again : {line after : Line} → Accepted line → length after ≤ length line → Distinct (numbers after) → ((x : ℕ) → Present after x → Present line x)
+    → ((s : Node) → Member s after → Sided s) → ((s : Node) → Member s after → Marked s) → ((s : Node) → Member s after → Small s) → ((x y : ℕ) → Link after x y → Present after y)
+    → Accepted after
+accepted-again {line} {after} ok few apart remain sided marked small known = record {
+  few = omega (arith, ok .few, few);
+  ranged = λ s m. let w = node-of line (remain (number s) (mem-map number m)) in rw (w .2) (ok .ranged (w .0) (w .1));
+  marked = marked;
+  small = small;
+  sided = sided;
+  distinct = apart;
+  known = λ s m q l. known (number s) q (link s m refl l);
 }
 
-module _ (line : Line) (ok : Sound line) (s : Node) (there-is : Member s line) where
+module _ (line : Line) (ok : Accepted line) (s : Node) (there-is : Member s line) where
   from-here : {x y : ℕ} → x ≡ number s → Linked s y → Link line x y
   from-here e p = link s there-is (sym e) p
 
   is-here : {t : Node} → Member t line → number t ≡ number s → {y : ℕ} → Linked t y → Linked s y
-  is-here m e {y} p = subst (λ (z : Node). Linked z y) (unique line (ok .accepted .distinct) m there-is e) p
+  is-here m e {y} p = subst (λ (z : Node). Linked z y) (unique line (ok .distinct) m there-is e) p
 
   -- what is sent was joined before
   sent-joined : {l : List Send} {Q : ℕ → Type 0} → Fair (Linked s) Q l → ((y : ℕ) → Q y → SelfOr (number s) (Linked s) y) → (x y : ℕ) → Sent l x y → Joined line x y
@@ -212,7 +215,7 @@ module _ (line : Line) (ok : Sound line) (s : Node) (there-is : Member s line) w
       (⊎-elim (λ e. equal (sym e)) (λ p. forward (from-here refl p)) (q y (f .says x y k)))
 
   -- the station stays, as u
-  module _ (u : Node) (l : List Send) (k : Remains (number s) (Linked s) u l) (marks : Marked u) (after : Line) (p : Posted (map (change (number s) (λ (t : Node). u)) line) l after) where
+  module _ (u : Node) (l : List Send) (k : Remains (number s) (Linked s) u l) (same : Keeps s u) (after : Line) (p : Posted (map (change (number s) (λ (t : Node). u)) line) l after) where
     stay-numbers : numbers after ≡ numbers line
     stay-numbers = p .alike ∙ changed-numbers (number s) (λ (t : Node). u) (λ t e. k .named) line
 
@@ -230,7 +233,7 @@ module _ (line : Line) (ok : Sound line) (s : Node) (there-is : Member s line) w
     stay-edge x y (sent q) =
         p .arrives x y q
         (rw (changed-numbers (number s) (λ (t : Node). u) (λ t e. k .named) line)
-        (ok .accepted .known s there-is x (k .fair .reaches (record { to = x; message = introduction y }) q)))
+        (ok .known s there-is x (k .fair .reaches (record { to = x; message = introduction y }) q)))
 
     stay-joined : (x y : ℕ) → Link line x y → Joined after x y
     stay-joined x y (link t m e q) =
@@ -240,11 +243,15 @@ module _ (line : Line) (ok : Sound line) (s : Node) (there-is : Member s line) w
 
     stay-result : Result line after
     stay-result = record {
-      sound = sound-again ok (omega (arith, numbers-length after line stay-numbers)) (rw stay-numbers (ok .written .rising)) (λ x m. rw stay-numbers at m)
-          (p .sided (changed-all (number s) (λ (t : Node). u) Sided line (ok .accepted .sided) (λ t m e. k .sided)))
-          (p .marked (changed-all (number s) (λ (t : Node). u) Marked line (ok .accepted .marked) (λ t m e. marks)))
-          (p .fit (changed-all (number s) (λ (t : Node). u) (λ (t : Node). Fit (t .bag)) line (fit-of ok) (λ t m e. k .fit)))
-          (λ x y h. rw stay-numbers (joined-present (ok .accepted) (stay-backed x y h) (rw stay-numbers at (source h))));
+      accepted = accepted-again ok (omega (arith, numbers-length after line stay-numbers)) (rw stay-numbers (ok .distinct)) (λ x m. rw stay-numbers at m)
+          (p .sided (changed-all (number s) (λ (t : Node). u) Sided line (ok .sided) (λ t m e. k .sided)))
+          (p .marked (changed-all (number s) (λ (t : Node). u) Marked line (ok .marked) (λ t m e. rw (same .marks) (ok .marked s there-is))))
+          (p .small (changed-all (number s) (λ (t : Node). u) Small line (ok .small) (λ t m e. k .small)))
+          (λ x y h. rw stay-numbers (joined-present ok (stay-backed x y h) (rw stay-numbers at (source h))));
+      written = λ w. record {
+        rising = rw stay-numbers (w .rising);
+        bags = p .order (changed-all (number s) (λ (t : Node). u) InOrder line (w .bags) (λ t m e. same .order (w .bags s there-is)));
+      };
       remain = λ x m. rw stay-numbers at m;
       backed = stay-backed;
       stays = λ a b m n j. carry stay-joined j;
@@ -266,7 +273,7 @@ module _ (line : Line) (ok : Sound line) (s : Node) (there-is : Member s line) w
     leave-sent : (x y : ℕ) → Sent l x y → Link after x y
     leave-sent x y q =
         let r = k .fair .reaches (record { to = x; message = introduction y }) q in
-        p .arrives x y q (present-without (number s) line (ok .accepted .known s there-is x r) (k .other x r))
+        p .arrives x y q (present-without (number s) line (ok .known s there-is x r) (k .other x r))
 
     -- the proxy stands for s, everyone else for themselves
     standsFor : ℕ → ℕ
@@ -289,11 +296,16 @@ module _ (line : Line) (ok : Sound line) (s : Node) (there-is : Member s line) w
 
     leave-result : Result line after
     leave-result = record {
-      sound = sound-again ok (omega (arith, numbers-length after (without (number s) line) (p .alike), without-length (number s) line))
-          (rw (p .alike) (without-rising (number s) line (ok .written .rising))) (λ x m. remains m .0)
-          (p .sided (λ t m. ok .accepted .sided t (without-mem (number s) line m .0)))
-          (p .marked (λ t m. ok .accepted .marked t (without-mem (number s) line m .0))) (p .fit (λ t m. fit-of ok t (without-mem (number s) line m .0)))
-          (λ x y h. rw (p .alike) (present-without (number s) line (joined-present (ok .accepted) (leave-backed x y h .0) (remains (source h) .0)) (leave-backed x y h .1)));
+      accepted = accepted-again ok (omega (arith, numbers-length after (without (number s) line) (p .alike), without-length (number s) line))
+          (rw (p .alike) (without-pairwise (number s) (λ (n k : ℕ). n ≢ k) line (ok .distinct))) (λ x m. remains m .0)
+          (p .sided (λ t m. ok .sided t (without-mem (number s) line m .0)))
+          (p .marked (λ t m. ok .marked t (without-mem (number s) line m .0)))
+          (p .small (λ t m. ok .small t (without-mem (number s) line m .0)))
+          (λ x y h. rw (p .alike) (present-without (number s) line (joined-present ok (leave-backed x y h .0) (remains (source h) .0)) (leave-backed x y h .1)));
+      written = λ w. record {
+        rising = rw (p .alike) (without-pairwise (number s) (λ (n k : ℕ). n < k) line (w .rising));
+        bags = p .order (λ t m. w .bags t (without-mem (number s) line m .0));
+      };
       remain = λ x m. remains m .0;
       backed = λ x y h. leave-backed x y h .0;
       stays = λ a b m n j. rw (for-other (remains m .1), for-other (remains n .1)) at (transport standsFor leave-joined j);
@@ -306,19 +318,19 @@ replaced-room n none line k h z r t m e = r t (without-mem n line m .0) e
 replaced-room n (some u) line k h z r t m e =
     ⊎-elim (λ w. r t (w .0) e) (λ w. absurd (z (sym e ∙ ap number (w .3) ∙ h u refl))) (changed-mem n (λ (t : Node). u) line m)
 
-pub step-result : (line : Line) (x : declared.Step) {after : Line} → Sound line → step line x ≡ done after → Result line after
+pub step-result : (line : Line) (x : declared.Step) {after : Line} → Accepted line → step line x ≡ done after → Result line after
 unfolding step commit replace
 step-result line x {after} ok e =
     let w = bound (find (x .station) line) (λ (s : Node). act (nidec line s) s (x .action) >>= (λ (e : Effect). commit line (number s) e)) e in
     let v = bound (act (nidec line (w .0)) (w .0) (x .action)) (λ (e : Effect). commit line (number (w .0)) e) (w .2) in
     let m = found (x .station) line (w .1) .0 in
-    let sided = ok .accepted .sided (w .0) m in
+    let sided = ok .sided (w .0) m in
     let r = required (all (hasRoom line) (v .0 .sends)) Full (v .2) in
     subst (Result line) (done-inj (r .1))
-    (go (w .0) m (v .0 .after) (v .0 .sends) (act-links line (w .0) sided (fit-of ok (w .0) m) (nidec line (w .0)) (nidec-tested line (w .0) .0) (x .action) (v .1))
-    (act-marks (nidec line (w .0)) (w .0) (x .action) (v .1)) (clear-act (w .0) sided (nidec line (w .0)) (x .action) (v .1)) (λ k i. has-room k line (all-true (hasRoom line) (r .0) i)))
+    (go (w .0) m (v .0 .after) (v .0 .sends) (act-links line (w .0) sided (ok .small (w .0) m) (nidec line (w .0)) (nidec-tested line (w .0) .0) (x .action) (v .1))
+    (act-keeps (nidec line (w .0)) (w .0) (x .action) (v .1)) (clear-act (w .0) sided (nidec line (w .0)) (x .action) (v .1)) (λ k i. has-room k line (all-true (hasRoom line) (r .0) i)))
   where
-    go : (s : Node) → Member s line → (o : Option Node) (l : List Send) → LinksKept line (number s) (Linked s) o l → MarksKept s o → Clear (number s) l → ((k : Send) → Member k l → Room line k)
+    go : (s : Node) → Member s line → (o : Option Node) (l : List Send) → LinksKept line (number s) (Linked s) o l → KeepsIfThere s o → Clear (number s) l → ((k : Send) → Member k l → Room line k)
         → Result line (sendAll l (replace (number s) o line))
     go s m none l k g c r =
         leave-result line ok s m l k (sendAll l (without (number s) line))
@@ -327,7 +339,7 @@ step-result line x {after} ok e =
         none-some : {u : Node} → none ≡ some u → ⊥
         none-some z = let w : _≡_ {A = ℕ} 0 1 = cc in omega arith
     go s m (some u) l k g c r =
-        stay-result line ok s m u l k (rw g (ok .accepted .marked s m)) (sendAll l (map (change (number s) (λ (t : Node). u)) line))
+        stay-result line ok s m u l k g (sendAll l (map (change (number s) (λ (t : Node). u)) line))
         (sent-all l (map (change (number s) (λ (t : Node). u)) line) (c .once)
         (λ i j. replaced-room (number s) (some u) line i (λ v z. rw (← some-inj z) (k .named)) (c .away i j) (r i j)))
       where
@@ -335,4 +347,15 @@ step-result line x {after} ok e =
         some-inj z = cc
 
 pub step-keeps-accepted : StepKeepsAccepted
-step-keeps-accepted line after x a w e = let r = step-result line x (record { accepted = a; written = w }) e .sound in (r .accepted, r .written)
+step-keeps-accepted line after x a e = step-result line x a e .accepted
+
+pub step-keeps-written : StepKeepsWritten
+step-keeps-written line after x a w e = step-result line x a e .written w
+
+-- What a line between two steps of a run is: accepted, and in written order.
+pub record Sound (line : Line) : Type 0 where
+  pub accepted : Accepted line
+  pub written : Written line
+
+pub step-sound : (line : Line) (x : declared.Step) {after : Line} → Sound line → step line x ≡ done after → Sound after
+step-sound line x ok e = let r = step-result line x (ok .accepted) e in record { accepted = r .accepted; written = r .written (ok .written) }

@@ -5,11 +5,10 @@ use mathlib.Core.Logic.{_↔_, _≢_}
 use mathlib.Core.Bool.{Bool, true}
 use mathlib.Core.List.{List, [], _∷_}
 use mathlib.Core.List.{List·Memᴰ as Member}
-use lib.ListN.{length, take}
+use lib.ListN.{length}
 use Rattle.line.specs.declared.Refusal.{Refusal}
 use Rattle.line.specs.declared.Refusal.the-variants.{Full}
 use Rattle.line.specs.declared.Reading.{Reading}
-use Rattle.line.specs.declared.Ending.the-variants.{Complete, Stopped}
 use Rattle.line.specs.declared.Step as declared
 use Rattle.line.specs.declared.Action.{Action}
 use Rattle.line.specs.Answer.{refused, done}
@@ -19,13 +18,14 @@ use Rattle.line.specs.Links.{Joined}
 use Rattle.line.specs.Nidec.{Nidec, nidec}
 use Rattle.line.specs.Act.{Send, Effect, act}
 use Rattle.line.specs.Step.{step}
-use Rattle.line.specs.Run.{try, run}
+use Rattle.line.specs.Run.{Run, run, IsRun}
+use Rattle.line.specs.Cause.{Cause}
 use Rattle.line.specs.Accepted.{Sided, Accepted, accepted}
 use Rattle.line.specs.Alike.{Alike}
 use Rattle.line.specs.InLine.{InLine, inLine}
 use Rattle.line.specs.Report.{Fires}
 use Rattle.line.specs.Situations.{Situation, Holds, situations}
-use Rattle.line.specs.Examples.{examples}
+use Rattle.line.specs.Examples.{examples, LineExample, Shows, lineExamples}
 
 -- The tests say what the statements say.
 abbrev pub NidecTested : Type 0
@@ -37,18 +37,27 @@ AcceptedTested = (line : Line) → (accepted line ≡ true) ↔ Accepted line
 abbrev pub InLineTested : Type 0
 InLineTested = (line : Line) → Written line → (inLine line ≡ true) ↔ InLine line
 
--- 1. A step that is done leaves an accepted line accepted and in written order; so does a run.
+-- 1. A step that is done leaves an accepted line accepted and, where it is in written order, in written order; so does a run.
 abbrev pub StepKeepsAccepted : Type 0
-StepKeepsAccepted = (line after : Line) (x : declared.Step) → Accepted line → Written line → step line x ≡ done after → Accepted after × Written after
+StepKeepsAccepted = (line after : Line) (x : declared.Step) → Accepted line → step line x ≡ done after → Accepted after
+
+abbrev pub StepKeepsWritten : Type 0
+StepKeepsWritten = (line after : Line) (x : declared.Step) → Accepted line → Written line → step line x ≡ done after → Written after
 
 abbrev pub RunKeepsAccepted : Type 0
-RunKeepsAccepted = (line : Line) (l : List Reading) → Accepted line → Written line → Accepted ((run line l) .line) × Written ((run line l) .line)
+RunKeepsAccepted = (line : Line) (l : List Reading) → Accepted line → Accepted ((run line l) .line)
 
--- 2. The line is never cut: two stations present at the end of a run, whether or not it stopped at a refusal, are joined there
--- exactly when they were joined at the start.
+abbrev pub RunKeepsWritten : Type 0
+RunKeepsWritten = (line : Line) (l : List Reading) → Accepted line → Written line → Written ((run line l) .line)
+
+-- 2. The line is never cut: stations present at the end of a run, whether or not it stopped at a refusal, were present at the start, and
+-- two of them are joined at the end exactly when they were joined at the start.
+abbrev pub PresentBefore : Type 0
+PresentBefore = (line : Line) (l : List Reading) → Accepted line → (n : ℕ) → Present ((run line l) .line) n → Present line n
+
 abbrev pub JoinedKept : Type 0
 JoinedKept =
-    (line : Line) (l : List Reading) → Accepted line → Written line
+    (line : Line) (l : List Reading) → Accepted line
     → (a b : ℕ) → Present ((run line l) .line) a → Present ((run line l) .line) b → Joined line a b ↔ Joined ((run line l) .line) a b
 
 -- 3. Accepted lines that are alike, whatever their stored order, have one written order; so everything after reading is equal.
@@ -73,16 +82,19 @@ WithinCapacity line = (s : Node) → Member s line → length (s .bag) ≤ capac
 
 abbrev pub ReportAgrees : Type 0
 ReportAgrees =
-    (line : Line) (x : declared.Step) → Accepted line → Written line
+    (line : Line) (x : declared.Step) → Accepted line
     → ((after : Line) → (step line x ≡ done after) ↔ (Fires line x after × WithinCapacity after))
     × ((step line x ≡ refused Full) ↔ ((after : Line) × Fires line x after × ¬ WithinCapacity after))
 
--- 5. The eleven starred situations, as one set; and the further examples.
+-- 5. The eleven starred situations, as one set; the further examples; and lines that are in line or not, with the stations that may leave.
 abbrev pub SituationsHold : Type 0
 SituationsHold = (x : Situation) → Member x situations → Holds x
 
 abbrev pub ExamplesHold : Type 0
 ExamplesHold = (x : Situation) → Member x examples → Holds x
+
+abbrev pub LineExamplesShow : Type 0
+LineExamplesShow = (x : LineExample) → Member x lineExamples → Shows x
 
 -- 6. "No step sends to its own station, and no step sends two messages to one station."
 abbrev pub Apart : List Send → Type 0
@@ -94,12 +106,11 @@ SendsApart =
     (nidecHolds : Bool) (s : Node) (a : Action) (e : Effect) → Sided s → act nidecHolds s a ≡ done e
     → ((m : Send) → Member m (e .sends) → m .to ≢ number s) × Apart (e .sends)
 
--- 7. A refused step changes nothing: the run stops with the line as it was. Whatever a run leaves, the steps done alone leave.
-abbrev pub RefusedChangesNothing : Type 0
-RefusedChangesNothing =
-    (line : Line) (x : Reading) (l : List Reading) (r : Refusal) → try line x ≡ refused r → run line (x ∷ l) ≡ record { ending = Stopped r; steps = 0; line = line }
+-- 7. What a run is, and nothing else: the first readings, as many as it counts, are done one after another and lead from the line read to
+-- the line left; then the list is at its end, or the next reading is refused in that line with the refusal told.
+abbrev pub RunPinned : Type 0
+RunPinned = (line : Line) (l : List Reading) (r : Run) → (run line l ≡ r) ↔ IsRun line l r
 
-abbrev pub StepsDoneAlone : Type 0
-StepsDoneAlone =
-    (line : Line) (l : List Reading)
-    → run line (take ((run line l) .steps) l) ≡ record { ending = Complete; steps = (run line l) .steps; line = (run line l) .line }
+-- 8. A step is refused with a number exactly when there is that number's cause.
+abbrev pub RefusedExactly : Type 0
+RefusedExactly = (line : Line) (x : declared.Step) (r : Refusal) → Accepted line → (step line x ≡ refused r) ↔ Cause line x r

@@ -1,14 +1,21 @@
--- Further worked examples, held to the same claim as the situations: the mirror images, the refusals, and bags at their bound.
+-- Further worked examples, held to the same claim as the situations: the mirror images, the refusals, and bags at their bound. Then
+-- lines, with whether they are in line and for which stations NIDEC holds.
 use Prim.Native.Nat.{ℕ}
+use mathlib.Core.Path.{_≡_}
+use mathlib.Core.Logic.{_↔_}
+use mathlib.Core.Bool.{Bool, true, false}
 use mathlib.Core.List.{List, [], _∷_, _++_}
+use mathlib.Core.List.{List·Memᴰ as Member}
 use lib.ListN.{replicate}
 use Rattle.line.specs.declared.Neighbour.the-variants.{None, Station}
 use Rattle.line.specs.declared.Message.{Message}
 use Rattle.line.specs.declared.Side.the-variants.{Left, Right}
-use Rattle.line.specs.declared.Refusal.the-variants.{Absent, NotInBag, Staying, Held, Full}
-use Rattle.line.specs.Answer.{refused, done}
 use Rattle.line.specs.Message.{introduction, removal}
-use Rattle.line.specs.Situations.{Situation, staying, leaving, single, timeoutAt, deliverTo, exitOf}
+use Rattle.line.specs.Node.{Node, Line, number}
+use Rattle.line.specs.Nidec.{Nidec}
+use Rattle.line.specs.Accepted.{accepted}
+use Rattle.line.specs.InLine.{InLine}
+use Rattle.line.specs.Situations.{Situation, doing, refusing, staying, leaving, single, timeoutAt, deliverTo, exitOf}
 
 -- n copies of a message
 abbrev pub many : ℕ → Message → List Message
@@ -17,132 +24,109 @@ many n m = replicate n m
 unfoldable pub examples : List Situation
 examples =
     -- timeout, staying: an introduction of 5 goes to both sides
-    record {
-      before = single 3 [] ∷ staying 5 (Station 3) (Station 9) (introduction 9 ∷ []) ∷ single 9 (removal Left ∷ []) ∷ [];
-      step = timeoutAt 5;
-      gives = done (single 3 (introduction 5 ∷ []) ∷ staying 5 (Station 3) (Station 9) (introduction 9 ∷ []) ∷ single 9 (introduction 5 ∷ removal Left ∷ []) ∷ []);
-    } ∷
+    doing (single 3 [] ∷ staying 5 (Station 3) (Station 9) (introduction 9 ∷ []) ∷ single 9 (removal Left ∷ []) ∷ []) (timeoutAt 5)
+    (single 3 (introduction 5 ∷ []) ∷ staying 5 (Station 3) (Station 9) (introduction 9 ∷ []) ∷ single 9 (introduction 5 ∷ removal Left ∷ []) ∷ []) ∷
     -- "each where there is one"
-    record {
-      before = single 3 [] ∷ leaving 5 (Station 3) None [] ∷ single 9 [] ∷ [];
-      step = timeoutAt 5;
-      gives = done (single 3 (removal Right ∷ []) ∷ leaving 5 (Station 3) None [] ∷ single 9 [] ∷ []);
-    } ∷
-    record {
-      before = single 3 [] ∷ staying 5 None (Station 9) [] ∷ single 9 [] ∷ [];
-      step = timeoutAt 5;
-      gives = done (single 3 [] ∷ staying 5 None (Station 9) [] ∷ single 9 (introduction 5 ∷ []) ∷ []);
-    } ∷
+    doing (single 3 [] ∷ leaving 5 (Station 3) None [] ∷ single 9 [] ∷ []) (timeoutAt 5)
+    (single 3 (removal Right ∷ []) ∷ leaving 5 (Station 3) None [] ∷ single 9 [] ∷ []) ∷
+    doing (single 3 [] ∷ staying 5 None (Station 9) [] ∷ single 9 [] ∷ []) (timeoutAt 5)
+    (single 3 [] ∷ staying 5 None (Station 9) [] ∷ single 9 (introduction 5 ∷ []) ∷ []) ∷
     -- the mirror images of situations 1 to 4
-    record {
-      before = single 3 [] ∷ single 4 [] ∷ staying 5 (Station 3) (Station 9) (introduction 4 ∷ []) ∷ single 9 [] ∷ [];
-      step = deliverTo 5 (introduction 4);
-      gives = done (single 3 [] ∷ single 4 (introduction 3 ∷ []) ∷ staying 5 (Station 4) (Station 9) [] ∷ single 9 [] ∷ []);
-    } ∷
-    record {
-      before = single 3 [] ∷ staying 5 (Station 3) (Station 9) (introduction 3 ∷ []) ∷ single 9 [] ∷ [];
-      step = deliverTo 5 (introduction 3);
-      gives = done (single 3 [] ∷ staying 5 (Station 3) (Station 9) [] ∷ single 9 [] ∷ []);
-    } ∷
-    record {
-      before = single 2 [] ∷ single 3 [] ∷ leaving 5 (Station 3) (Station 9) (introduction 2 ∷ []) ∷ single 9 [] ∷ [];
-      step = deliverTo 5 (introduction 2);
-      gives = done (single 2 [] ∷ single 3 (introduction 2 ∷ []) ∷ leaving 5 (Station 3) (Station 9) [] ∷ single 9 [] ∷ []);
-    } ∷
-    record {
-      before = single 2 [] ∷ staying 5 None (Station 9) (introduction 2 ∷ []) ∷ single 9 [] ∷ [];
-      step = deliverTo 5 (introduction 2);
-      gives = done (single 2 [] ∷ staying 5 (Station 2) (Station 9) [] ∷ single 9 [] ∷ []);
-    } ∷
+    doing (single 3 [] ∷ single 4 [] ∷ staying 5 (Station 3) (Station 9) (introduction 4 ∷ []) ∷ single 9 [] ∷ []) (deliverTo 5 (introduction 4))
+    (single 3 [] ∷ single 4 (introduction 3 ∷ []) ∷ staying 5 (Station 4) (Station 9) [] ∷ single 9 [] ∷ []) ∷
+    doing (single 3 [] ∷ staying 5 (Station 3) (Station 9) (introduction 3 ∷ []) ∷ single 9 [] ∷ []) (deliverTo 5 (introduction 3))
+    (single 3 [] ∷ staying 5 (Station 3) (Station 9) [] ∷ single 9 [] ∷ []) ∷
+    doing (single 2 [] ∷ single 3 [] ∷ leaving 5 (Station 3) (Station 9) (introduction 2 ∷ []) ∷ single 9 [] ∷ []) (deliverTo 5 (introduction 2))
+    (single 2 [] ∷ single 3 (introduction 2 ∷ []) ∷ leaving 5 (Station 3) (Station 9) [] ∷ single 9 [] ∷ []) ∷
+    doing (single 2 [] ∷ staying 5 None (Station 9) (introduction 2 ∷ []) ∷ single 9 [] ∷ []) (deliverTo 5 (introduction 2))
+    (single 2 [] ∷ staying 5 (Station 2) (Station 9) [] ∷ single 9 [] ∷ []) ∷
     -- staying, remove-right: obeyed as by a leaving station
-    record {
-      before = single 3 [] ∷ staying 5 (Station 3) (Station 9) (removal Right ∷ []) ∷ single 9 [] ∷ [];
-      step = deliverTo 5 (removal Right);
-      gives = done (single 3 [] ∷ staying 5 (Station 3) None [] ∷ single 9 (introduction 5 ∷ []) ∷ []);
-    } ∷
+    doing (single 3 [] ∷ staying 5 (Station 3) (Station 9) (removal Right ∷ []) ∷ single 9 [] ∷ []) (deliverTo 5 (removal Right))
+    (single 3 [] ∷ staying 5 (Station 3) None [] ∷ single 9 (introduction 5 ∷ []) ∷ []) ∷
     -- a removal where there is no neighbour
-    record {
-      before = staying 5 None (Station 9) (removal Left ∷ []) ∷ single 9 [] ∷ [];
-      step = deliverTo 5 (removal Left);
-      gives = done (staying 5 None (Station 9) [] ∷ single 9 [] ∷ []);
-    } ∷
+    doing (staying 5 None (Station 9) (removal Left ∷ []) ∷ single 9 [] ∷ []) (deliverTo 5 (removal Left))
+    (staying 5 None (Station 9) [] ∷ single 9 [] ∷ []) ∷
     -- the message is named by content: another of its kind stands in front of it and stays
-    record {
-      before = single 3 [] ∷ staying 5 (Station 3) (Station 9) (introduction 3 ∷ introduction 7 ∷ []) ∷ single 7 [] ∷ single 9 [] ∷ [];
-      step = deliverTo 5 (introduction 7);
-      gives = done (single 3 [] ∷ staying 5 (Station 3) (Station 7) (introduction 3 ∷ []) ∷ single 7 (introduction 9 ∷ []) ∷ single 9 [] ∷ []);
-    } ∷
+    doing (single 3 [] ∷ staying 5 (Station 3) (Station 9) (introduction 3 ∷ introduction 7 ∷ []) ∷ single 7 [] ∷ single 9 [] ∷ []) (deliverTo 5 (introduction 7))
+    (single 3 [] ∷ staying 5 (Station 3) (Station 7) (introduction 3 ∷ []) ∷ single 7 (introduction 9 ∷ []) ∷ single 9 [] ∷ []) ∷
     -- exit with one neighbour: nothing is sent
-    record {
-      before = single 3 [] ∷ leaving 5 (Station 3) None [] ∷ single 9 [] ∷ [];
-      step = exitOf 5;
-      gives = done (single 3 [] ∷ single 9 [] ∷ []);
-    } ∷
+    doing (single 3 [] ∷ leaving 5 (Station 3) None [] ∷ single 9 [] ∷ []) (exitOf 5)
+    (single 3 [] ∷ single 9 [] ∷ []) ∷
     -- situation 13: a sole leaving station with an empty bag exits
-    record {
-      before = leaving 5 None None [] ∷ [];
-      step = exitOf 5;
-      gives = done [];
-    } ∷
+    doing (leaving 5 None None [] ∷ []) (exitOf 5)
+    [] ∷
     -- 11: station not present
-    record {
-      before = single 3 [] ∷ single 9 [] ∷ [];
-      step = timeoutAt 5;
-      gives = refused Absent;
-    } ∷
+    refusing (single 3 [] ∷ single 9 [] ∷ []) (timeoutAt 5) 11 ∷
     -- 12: message not in that bag, though one of its kind is
-    record {
-      before = single 3 [] ∷ staying 5 (Station 3) (Station 9) (introduction 9 ∷ []) ∷ single 9 [] ∷ [];
-      step = deliverTo 5 (introduction 3);
-      gives = refused NotInBag;
-    } ∷
+    refusing (single 3 [] ∷ staying 5 (Station 3) (Station 9) (introduction 9 ∷ []) ∷ single 9 [] ∷ []) (deliverTo 5 (introduction 3)) 12 ∷
+    -- 12: a remove-left that is missing, though a remove-right waits
+    refusing (single 3 [] ∷ staying 5 (Station 3) (Station 9) (removal Right ∷ []) ∷ single 9 [] ∷ []) (deliverTo 5 (removal Left)) 12 ∷
+    -- 13: a staying station for which NIDEC holds
+    refusing (single 3 [] ∷ staying 5 (Station 3) (Station 9) [] ∷ single 9 [] ∷ []) (exitOf 5) 13 ∷
     -- 13 comes before 14: a staying station, named by 9
-    record {
-      before = single 3 [] ∷ staying 5 (Station 3) (Station 9) [] ∷ staying 9 (Station 5) None [] ∷ [];
-      step = exitOf 5;
-      gives = refused Staying;
-    } ∷
+    refusing (single 3 [] ∷ staying 5 (Station 3) (Station 9) [] ∷ staying 9 (Station 5) None [] ∷ []) (exitOf 5) 13 ∷
     -- 14: named as a right neighbour, as a left neighbour, and by an introduction alone
-    record {
-      before = staying 3 None (Station 5) [] ∷ leaving 5 (Station 3) (Station 9) [] ∷ single 9 [] ∷ [];
-      step = exitOf 5;
-      gives = refused Held;
-    } ∷
-    record {
-      before = single 3 [] ∷ leaving 5 (Station 3) (Station 9) [] ∷ staying 9 (Station 5) None [] ∷ [];
-      step = exitOf 5;
-      gives = refused Held;
-    } ∷
-    record {
-      before = single 3 [] ∷ leaving 5 (Station 3) (Station 9) [] ∷ single 9 (introduction 3 ∷ introduction 5 ∷ []) ∷ [];
-      step = exitOf 5;
-      gives = refused Held;
-    } ∷
+    refusing (staying 3 None (Station 5) [] ∷ leaving 5 (Station 3) (Station 9) [] ∷ single 9 [] ∷ []) (exitOf 5) 14 ∷
+    refusing (single 3 [] ∷ leaving 5 (Station 3) (Station 9) [] ∷ staying 9 (Station 5) None [] ∷ []) (exitOf 5) 14 ∷
+    refusing (single 3 [] ∷ leaving 5 (Station 3) (Station 9) [] ∷ single 9 (introduction 3 ∷ introduction 5 ∷ []) ∷ []) (exitOf 5) 14 ∷
     -- 14 comes before 15
-    record {
-      before = single 3 (many 32 (introduction 9)) ∷ leaving 5 (Station 3) (Station 9) [] ∷ staying 9 (Station 5) None [] ∷ [];
-      step = exitOf 5;
-      gives = refused Held;
-    } ∷
+    refusing (single 3 (many 32 (introduction 9)) ∷ leaving 5 (Station 3) (Station 9) [] ∷ staying 9 (Station 5) None [] ∷ []) (exitOf 5) 14 ∷
     -- situation 12: the right bag holds 32, so nothing happens at the left either; with 31 it is done
-    record {
-      before = single 3 [] ∷ staying 5 (Station 3) (Station 9) [] ∷ single 9 (many 32 (introduction 9)) ∷ [];
-      step = timeoutAt 5;
-      gives = refused Full;
-    } ∷
-    record {
-      before = single 3 [] ∷ staying 5 (Station 3) (Station 9) [] ∷ single 9 (many 31 (introduction 9)) ∷ [];
-      step = timeoutAt 5;
-      gives = done (single 3 (introduction 5 ∷ []) ∷ staying 5 (Station 3) (Station 9) [] ∷ single 9 (introduction 5 ∷ many 31 (introduction 9)) ∷ []);
-    } ∷
+    refusing (single 3 [] ∷ staying 5 (Station 3) (Station 9) [] ∷ single 9 (many 32 (introduction 9)) ∷ []) (timeoutAt 5) 15 ∷
+    doing (single 3 [] ∷ staying 5 (Station 3) (Station 9) [] ∷ single 9 (many 31 (introduction 9)) ∷ []) (timeoutAt 5)
+    (single 3 (introduction 5 ∷ []) ∷ staying 5 (Station 3) (Station 9) [] ∷ single 9 (introduction 5 ∷ many 31 (introduction 9)) ∷ []) ∷
     -- an exit whose left must receive and holds 32; a delivery whose own bag holds 32 makes room and sends nothing to itself
+    refusing (single 3 (many 32 (introduction 3)) ∷ leaving 5 (Station 3) (Station 9) [] ∷ single 9 [] ∷ []) (exitOf 5) 15 ∷
+    doing (single 3 [] ∷ staying 5 (Station 3) (Station 9) (many 31 (introduction 7) ++ (removal Left ∷ [])) ∷ single 7 [] ∷ single 9 [] ∷ []) (deliverTo 5 (removal Left))
+    (single 3 (introduction 5 ∷ []) ∷ staying 5 None (Station 9) (many 31 (introduction 7)) ∷ single 7 [] ∷ single 9 [] ∷ []) ∷ []
+
+-- A line, whether it is in line, and the stations for which NIDEC holds.
+pub record LineExample : Type 0 where
+  pub line : Line
+  pub inLine : Bool
+  pub free : List ℕ
+
+-- a statement holds, or it does not
+abbrev pub Says : Bool → Type 0 → Type 0
+Says true P = P
+Says false P = ¬ P
+
+pub record Shows (x : LineExample) : Type 0 where
+  pub accepts : accepted (x .line) ≡ true
+  pub in-line : Says (x .inLine) (InLine (x .line))
+  pub free : (s : Node) → Member s (x .line) → Nidec (x .line) s ↔ Member (number s) (x .free)
+
+unfoldable pub lineExamples : List LineExample
+lineExamples =
+    -- "The empty table is in line."
+    record { line = []; inLine = true; free = [] } ∷
+    -- 3, 5 and 9 in line: each is named by a neighbour
     record {
-      before = single 3 (many 32 (introduction 3)) ∷ leaving 5 (Station 3) (Station 9) [] ∷ single 9 [] ∷ [];
-      step = exitOf 5;
-      gives = refused Full;
+      line = staying 3 None (Station 5) [] ∷ staying 5 (Station 3) (Station 9) [] ∷ staying 9 (Station 5) None [] ∷ [];
+      inLine = true;
+      free = [];
+    } ∷
+    -- the same with a left missing, and with a right missing
+    record {
+      line = staying 3 None (Station 5) [] ∷ staying 5 None (Station 9) [] ∷ staying 9 (Station 5) None [] ∷ [];
+      inLine = false;
+      free = 3 ∷ [];
     } ∷
     record {
-      before = single 3 [] ∷ staying 5 (Station 3) (Station 9) (many 31 (introduction 7) ++ (removal Left ∷ [])) ∷ single 7 [] ∷ single 9 [] ∷ [];
-      step = deliverTo 5 (removal Left);
-      gives = done (single 3 (introduction 5 ∷ []) ∷ staying 5 None (Station 9) (many 31 (introduction 7)) ∷ single 7 [] ∷ single 9 [] ∷ []);
+      line = staying 3 None (Station 5) [] ∷ staying 5 (Station 3) None [] ∷ staying 9 (Station 5) None [] ∷ [];
+      inLine = false;
+      free = 9 ∷ [];
+    } ∷
+    -- NIDEC holds for 5, which stays, and for no station that it names
+    record { line = single 3 [] ∷ staying 5 (Station 3) (Station 9) [] ∷ single 9 [] ∷ []; inLine = false; free = 5 ∷ [] } ∷
+    -- it does not hold where a message waits in the own bag, nor where another bag introduces the station
+    record {
+      line = single 3 [] ∷ leaving 5 (Station 3) (Station 9) (removal Left ∷ []) ∷ single 9 [] ∷ [];
+      inLine = false;
+      free = [];
+    } ∷
+    record {
+      line = single 3 [] ∷ leaving 5 (Station 3) None [] ∷ single 9 (introduction 5 ∷ []) ∷ [];
+      inLine = false;
+      free = [];
     } ∷ []

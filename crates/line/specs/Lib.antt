@@ -8,6 +8,7 @@ pub mod Nidec
 pub mod Act
 pub mod Step
 pub mod Run
+pub mod Cause
 pub mod Accepted
 pub mod Alike
 pub mod InLine

@@ -1,5 +1,8 @@
 -- Figure 1 of source 000, "Algorithm SL for process p", in its own form: guards and commands over the variables of a process.
 -- Where the printed layout of the figure is unclear, the step rules of document 01 decide, and the claim `ReportAgrees` ties both.
+-- The figure says what a process sends, not how a channel takes it in: the channels are updated by the machine's own `sendAll` and `put`,
+-- and a message is received by its `remove`. So `ReportAgrees` does not pin these; the situations and examples do, with every copy
+-- counted, and of the run's bytes the contract of `run`.
 use Prim.Native.Nat.{ℕ}
 use mathlib.Core.Path.{_≡_}
 use mathlib.Core.Bool.{Bool, true, false, cond, not, _&&_}
@@ -160,7 +163,8 @@ introduce id =
     ⨾ (if p below id and id below right then (send intro right to id ⨾ right:= id))
     ⨾ (if right below id then send intro id to right)
 
--- "request: req ∈ p.C → receive req(direction)"
+-- "request: req ∈ p.C → receive req(direction)". The figure is printed without indents: how far its `if not leaving` reaches, over the
+-- sending alone or over `left := −∞` too, is not to be seen there. Document 01 decides: "A leaving p does no more", so over both.
 unfoldable pub request : Direction → Command
 request remleft = if not-leaving then (send intro p to left ⨾ left:= always −∞)
 request remright = send intro p to right ⨾ right:= always +∞

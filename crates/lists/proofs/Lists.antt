@@ -48,6 +48,15 @@ module _ {A : Type 0} (f : A → Bool) where
   true-all [] h = refl
   true-all (x ∷ l) h = both-and (h x (here refl)) (true-all l (λ y m. h y (there m)))
 
+  pub all-false : (l : List A) → all f l ≡ false → (x : A) × Member x l × (f x ≡ false)
+  unfolding all
+  all-false [] e = clash refl e
+  all-false (y ∷ l) e = go (f y) refl e (all-false l)
+    where
+      go : (t : Bool) → f y ≡ t → (t && all f l) ≡ false → (all f l ≡ false → (x : A) × Member x l × (f x ≡ false)) → (x : A) × Member x (y ∷ l) × (f x ≡ false)
+      go true p q r = let w = r q in (w .0, there (w .1), w .2)
+      go false p q r = (y, here refl, p)
+
   pub any-true : (l : List A) → any f l ≡ true → (x : A) × Member x l × (f x ≡ true)
   unfolding any
   any-true [] e = clash e refl

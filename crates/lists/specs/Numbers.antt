@@ -7,10 +7,14 @@ use mathlib.Core.List.{List·Memᴰ as Member}
 use lib.Dec.{eqb, ltb}
 use Rattle.lists.specs.Lists.{all}
 
+-- each number stands in a relation to every number behind it
+abbrev pub Pairwise : (ℕ → ℕ → Type 0) → List ℕ → Type 0
+Pairwise R [] = Unit {0}
+Pairwise R (n ∷ l) = ((k : ℕ) → Member k l → R n k) × Pairwise R l
+
 -- numbers rise strictly
 abbrev pub Rising : List ℕ → Type 0
-Rising [] = Unit {0}
-Rising (n ∷ l) = ((k : ℕ) → Member k l → n < k) × Rising l
+Rising l = Pairwise (λ (n k : ℕ). n < k) l
 
 -- each number is below the next
 unfoldable pub rises : List ℕ → Bool
@@ -18,9 +22,9 @@ rises [] = true
 rises (x ∷ []) = true
 rises (x ∷ y ∷ l) = ltb x y && rises (y ∷ l)
 
+-- no two are equal
 abbrev pub Distinct : List ℕ → Type 0
-Distinct [] = Unit {0}
-Distinct (n ∷ l) = ((k : ℕ) → Member k l → n ≢ k) × Distinct l
+Distinct l = Pairwise (λ (n k : ℕ). n ≢ k) l
 
 unfoldable pub areDistinct : List ℕ → Bool
 areDistinct [] = true
