@@ -1,60 +1,191 @@
 #!/usr/bin/env python3
 """Writes the files that the listing programs read, and what they must print.
 
-The tables and steps are laid out from document 01 alone; the listings are the ones of document 01 ("The printed listing" and number
-16). Run it in the repository's root; what it writes is kept in the repository: examples/, and data/ and stdout of each listing
-program.
+The tables and steps are laid out from document 01 alone (layout.py), and each listing is written here by the words of document 01
+("The printed listing", "The numbers a crew may see"), not taken from what a program printed. Run it in the repository's root; what
+it writes is kept in the repository: examples/, data/ and stdout of `listing`, and data/, args and stdout of `listing_cases`.
 """
 import os
 import shutil
 
-from layout import DELIVER, INTRODUCTION, block, line64, step
+from layout import DELIVER, EXIT, INTRODUCTION, REMOVE_LEFT, TIMEOUT, block, changed, line64, step
+
+# ---- the example of document 01 ----
 
 # "For 3 (right 5), 5 (left 3, right 9, bag i7), 7 (no neighbours), 9 (left 5), all staying, and the one step 'deliver to 5
 # introduction 7'"
-TABLE = block(3, right=5) + block(5, left=3, right=9, bag=[(INTRODUCTION, 7)]) + block(7) + block(9, left=5)
-STEPS = step(DELIVER, 5, INTRODUCTION, 7)
-LISTING = """\
-answer 0 done 1 stations 4
+FOUR = [block(3, right=5), block(5, left=3, right=9, bag=[(INTRODUCTION, 7)]), block(7), block(9, left=5)]
+TABLE = b"".join(FOUR)
+STEP = step(DELIVER, 5, INTRODUCTION, 7)
+AFTER = """\
 3 - 5 stay
 5 3 7 stay
 7 - - stay i9
 9 5 - stay
 """
-UNREADABLE = "answer 16 done 0 stations 0\n"
+BEFORE = """\
+3 - 5 stay
+5 3 9 stay i7
+7 - - stay
+9 5 - stay
+"""
 
-PROGRAMS = {
-    "listing": (TABLE, STEPS, LISTING),
-    "listing_refused": (TABLE + b"\0", STEPS, "answer 1 done 0 stations 0\n"),
-    "listing_missing": (TABLE, None, UNREADABLE),
-    "listing_long_table": (b"".join(line64) + b"\0", STEPS, UNREADABLE),
-    "listing_long_steps": (TABLE, STEPS * 4096 + b"\0", UNREADABLE),
-    "listing_directory": ("directory", STEPS, UNREADABLE),
+
+def first_line(answer, done=0, stations=0):
+    return "answer %d done %d stations %d\n" % (answer, done, stations)
+
+
+# ---- the files of `listing_cases` ----
+
+FULL = b"".join(line64)                                 # 64 blocks, 32,768 bytes
+# "an introduction of p goes to left and to right": 1 has the right 2 alone. "with q equal to right, no more", and so on the left.
+TURN = step(TIMEOUT, 1) + step(DELIVER, 2, INTRODUCTION, 1)
+LAST = 999999
+CROWD = range(LAST - 63, LAST + 1)                      # 64 stations of six digits
+NAMED = CROWD[-32:]                                     # 32 of them, in every bag
+HELD = [block(3, right=5), block(5, left=3, right=9, leaving=1), block(9, left=5)]
+
+TABLES = {
+    "example": TABLE,
+    "empty": b"",
+    "full": FULL,
+    "crowded": b"".join(block(p, left=p - 1 if p > CROWD[0] else 0, right=p + 1 if p < LAST else 0, leaving=1,
+                              bag=[(INTRODUCTION, q) for q in reversed(NAMED)]) for p in reversed(CROWD)),
+    "held": b"".join(HELD),
+    "bag-of-32": b"".join(HELD[:2]) + block(9, left=5, bag=[(REMOVE_LEFT, 0)] * 32),
+    "sole": block(5, leaving=1),
+    "one-byte-more": FULL + b"\0",
+    "one-byte-less": FULL[:-1],
+    "65-blocks": FULL + block(65),
+    # for each of 1 and 3 to 7 a table with that fault; 2 needs more blocks than a file may have
+    "fault-1": TABLE + b"\0",
+    "fault-3": TABLE + changed(block(11), 500, 1),
+    "fault-4": TABLE + block(11, layout=2),
+    "fault-5": TABLE + block(11, right=9),
+    "fault-6": TABLE + block(9),
+    "fault-7": TABLE + block(11, left=10),
+    "full-fault-3": FULL[:-512] + changed(line64[63], 511, 0),
 }
+STEPS = {
+    "example": STEP,
+    "empty": b"",
+    "full": TURN * 2048,                                # 4,096 steps, 49,152 bytes
+    "one-byte-more": TURN * 2048 + b"\0",
+    "one-byte-less": (TURN * 2048)[:-1],
+    "4097-steps": TURN * 2048 + step(TIMEOUT, 1),
+    "fault-8": STEP + b"\0",
+    "refused-10": STEP + step(4, 5),
+    "refused-11": STEP + step(TIMEOUT, 4),
+    "refused-12": STEP * 2,
+    "refused-13": STEP + step(EXIT, 7),
+    "timeout-5": step(TIMEOUT, 5),
+    "exit-5": step(EXIT, 5),
+}
+MISSING, FOLDER = "missing", "folder"                   # a name without a file, and a directory in the place of one
+
+# ---- the cases: a table, a step list, and the listing of document 01 ----
+
+LINE_OF_64 = "".join("%d %s %s stay\n" % (p, p - 1 or "-", p + 1 if p < 64 else "-") for p in range(1, 65))
+WORDS = "".join(" i%d" % q for q in NAMED)
+LINE_OF_CROWD = "".join("%d %s %s leave%s\n" % (p, p - 1 if p > CROWD[0] else "-", p + 1 if p < LAST else "-", WORDS) for p in CROWD)
+HELD_LINES = "3 - 5 stay\n5 3 9 leave\n9 5 - stay"
+
+CASES = [
+    ("example", "example", first_line(0, 1, 4) + AFTER),
+    ("example", "empty", first_line(0, 0, 4) + BEFORE),
+    # "an empty table with an empty list answers 0, 0, 0"
+    ("empty", "empty", first_line(0)),
+    ("empty", "example", first_line(11)),
+    ("sole", "exit-5", first_line(0, 1, 0)),
+    # the longest files that are let in, and the longest lines
+    ("full", "empty", first_line(0, 0, 64) + LINE_OF_64),
+    ("full", "full", first_line(0, 4096, 64) + LINE_OF_64),
+    ("crowded", "empty", first_line(0, 0, 64) + LINE_OF_CROWD),
+    ("full-fault-3", "full", first_line(3)),
+    # one byte less is let in as well, and is no table and no list; one byte more is not
+    ("one-byte-less", "example", first_line(1)),
+    ("full", "one-byte-less", first_line(8)),
+    ("one-byte-more", "example", first_line(16)),
+    ("65-blocks", "example", first_line(16)),
+    ("full", "one-byte-more", first_line(16)),
+    ("full", "4097-steps", first_line(16)),
+    ("one-byte-more", "one-byte-more", first_line(16)),
+    # files that cannot be read
+    (MISSING, "example", first_line(16)),
+    ("example", MISSING, first_line(16)),
+    (MISSING, MISSING, first_line(16)),
+    (FOLDER, "example", first_line(16)),
+    ("example", FOLDER, first_line(16)),
+    (FOLDER, FOLDER, first_line(16)),
+    (MISSING, FOLDER, first_line(16)),
+    ("empty", MISSING, first_line(16)),
+    (MISSING, "empty", first_line(16)),
+    # every other number that the program can print
+    ("fault-1", "example", first_line(1)),
+    ("fault-3", "example", first_line(3)),
+    ("fault-4", "example", first_line(4)),
+    ("fault-5", "example", first_line(5)),
+    ("fault-6", "example", first_line(6)),
+    ("fault-7", "example", first_line(7)),
+    ("example", "fault-8", first_line(8)),
+    ("example", "refused-10", first_line(10, 1, 4) + AFTER),
+    ("example", "refused-11", first_line(11, 1, 4) + AFTER),
+    ("example", "refused-12", first_line(12, 1, 4) + AFTER),
+    ("example", "refused-13", first_line(13, 1, 4) + AFTER),
+    ("held", "exit-5", first_line(14, 0, 3) + HELD_LINES + "\n"),
+    ("bag-of-32", "timeout-5", first_line(15, 0, 3) + HELD_LINES + " l" * 32 + "\n"),
+    # "the program looks for 16 before all else": before the table's number and the list's
+    ("fault-1", MISSING, first_line(16)),
+    ("fault-3", MISSING, first_line(16)),
+    ("fault-4", FOLDER, first_line(16)),
+    ("fault-5", "one-byte-more", first_line(16)),
+    ("fault-6", "4097-steps", first_line(16)),
+    ("fault-7", MISSING, first_line(16)),
+    ("one-byte-less", FOLDER, first_line(16)),
+    ("full-fault-3", "one-byte-more", first_line(16)),
+    (MISSING, "fault-8", first_line(16)),
+    (FOLDER, "fault-8", first_line(16)),
+    ("one-byte-more", "fault-8", first_line(16)),
+    ("65-blocks", "refused-10", first_line(16)),
+]
 
 
 def put(folder, name, content):
-    path = os.path.join(folder, name)
-    if content == "directory":
-        os.makedirs(path)
-        path, content = os.path.join(path, "readme"), b"A folder stands where the table should be.\n"
-    if content is not None:
-        with open(path, "wb") as f:
-            f.write(content)
+    with open(os.path.join(folder, name), "wb") as f:
+        f.write(content)
 
 
-def main():
+def fresh(folder):
+    shutil.rmtree(folder, ignore_errors=True)
+    os.makedirs(folder)
+    return folder
+
+
+def write_example():
     os.makedirs("examples", exist_ok=True)
-    put("examples", "table.bin", TABLE)
-    put("examples", "steps.bin", STEPS)
-    for name, (table, steps, listing) in PROGRAMS.items():
-        data = os.path.join("crates", name, "data")
-        shutil.rmtree(data, ignore_errors=True)
-        os.makedirs(data)
-        put(data, "table.bin", table)
-        put(data, "steps.bin", steps)
-        with open(os.path.join("crates", name, "stdout"), "w") as f:
-            f.write(listing)
+    for folder in "examples", fresh("crates/listing/data"):
+        put(folder, "table.bin", TABLE)
+        put(folder, "steps.bin", STEP)
+    put("crates/listing", "stdout", (first_line(0, 1, 4) + AFTER).encode())
 
 
-main()
+def write_cases():
+    home = "crates/listing_cases"
+    data = fresh(os.path.join(home, "data"))
+    for kind, files in ("table", TABLES), ("steps", STEPS):
+        for name, content in files.items():
+            put(data, name + "." + kind, content)
+        # an empty folder is not kept in the repository
+        put(fresh(os.path.join(data, FOLDER + "." + kind)), "readme", b"A directory stands where a file should be.\n")
+    args, stdout = "", ""
+    for table, steps, listing in CASES:
+        assert table in (*TABLES, MISSING, FOLDER) and steps in (*STEPS, MISSING, FOLDER)
+        args += "%s.table\n%s.steps\n" % (table, steps)
+        stdout += "case %s.table %s.steps\n%s" % (table, steps, listing)
+    put(home, "args", args.encode())
+    put(home, "stdout", stdout.encode())
+
+
+assert (len(TABLES["full"]), len(STEPS["full"])) == (32768, 49152)
+write_example()
+write_cases()

@@ -65,11 +65,11 @@ fn read_file(path: &[u8], buf: &mut [u8]) -> Got
 
 // 16: "a file can't be read, or is over 32,768 (table) or 49,152 (steps) bytes". The buffers have room for one byte more, so that a
 // file that is too long is seen.
-pub fn print_listing() {
+pub fn print_listing(table_path: &[u8], steps_path: &[u8]) {
     let mut table = [0u8; 32769];
     let mut steps = [0u8; 49153];
-    let t = read_file(b"table.bin", &mut table);
-    let s = read_file(b"steps.bin", &mut steps);
+    let t = read_file(table_path, &mut table);
+    let s = read_file(steps_path, &mut steps);
     if t.failed | s.failed | (32768 < t.n) | (49152 < s.n) {
         io::write_all(STDOUT_FILENO, b"answer 16 done 0 stations 0\n");
         return;

@@ -1,4 +1,0 @@
-// The listing program where the table's length is wrong.
-fn main() {
-    printing::print_listing();
-}
