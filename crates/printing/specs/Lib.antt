@@ -1,2 +1,4 @@
--- What a reader must believe of the printed listing of a run.
+-- What a reader must believe of the program that prints the listing of a run, in reading order.
 pub mod Printed
+pub mod Program
+pub mod Claims

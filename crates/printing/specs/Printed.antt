@@ -1,4 +1,4 @@
--- What the program prints of a run (document 01, "The printed listing").
+-- What is printed of a run (document 01, "The printed listing").
 use Prim.Native.Nat.{ℕ}
 use mathlib.Core.Path.{_≡_}
 use mathlib.Core.List.{List, _++_}
@@ -12,8 +12,7 @@ use Rattle.text.specs.Listing.{listingText}
 unfoldable pub printed : Outcome → List ℕ
 printed o = listingText (o .answer) (o .done) (o .stations) (nodes (tableIn o))
 
--- the room is left as the run leaves it, and the first n bytes of `after` are the listing; the rest is as it was before
-pub record Prints (o : Outcome) (room before : List ℕ) (n : ℕ) (after : List ℕ) : Type 0 where
-  pub room-is : room ≡ o .room
-  pub filled : n ≡ length (printed o)
-  pub text : after ≡ printed o ++ drop n before
+-- the first n bytes of `after` are the text; the rest is as it was before
+pub record Prints (text before : List ℕ) (n : ℕ) (after : List ℕ) : Type 0 where
+  pub filled : n ≡ length text
+  pub bytes : after ≡ text ++ drop n before

@@ -1,81 +1,71 @@
-// The program that runs a list (document 01, "The printed listing"): it reads two files and prints the listing of the run.
+// The program that runs a list (document 01, "The printed listing" and 16 of "The numbers a crew may see"). What it prints of two files is
+// `list_files`, which is proved; around it `print_listing` reads and writes.
+mod files;
+
 use engine::run;
+use files::read_file;
 use libc::STDOUT_FILENO;
 use text::write_listing;
+ghost use mathlib.Core.Path.{_≡_};
 ghost use Prim.Native.Nat.{_≤_};
 ghost use lib.ListN.{length};
 ghost use Rattle.io.specs.Counts.{Counts};
 ghost use Rattle.engine.specs.Ran.{outcome};
-ghost use Rattle.printing.specs.Printed.{Prints};
+ghost use Rattle.printing.specs.Printed.{printed, Prints};
+ghost use Rattle.printing.specs.Program.{filesHold, programRoom, programText};
 
-// How many bytes of a file were read, and whether it could be read at all.
-pub struct Got {
-    pub n: usize,
-    pub failed: bool,
+// "over 32,768 (table) or 49,152 (steps) bytes"
+const TABLE_LIMIT: usize = 32768;
+
+const STEPS_LIMIT: usize = 49152;
+
+// Whether both files can be read and neither is over its limit.
+fn files_hold(table_read: bool, table: &[u8], steps_read: bool, steps: &[u8]) -> bool
+    ensures { λ r. ⌜ r ≡ filesHold (record { isRead = «table_read»; bytes = now (table .entry) }) (record { isRead = «steps_read»; bytes = now (steps .entry) }) ⌝ }
+{
+    (table_read & (table.len() <= TABLE_LIMIT)) & (steps_read & (steps.len() <= STEPS_LIMIT))
 }
 
-// The listing of a run from the start of `out`: how many bytes it has is returned, and bytes past it are not touched. The table is
-// written to the room.
-pub fn list_run(table: &[u8], steps: &[u8], room: &mut [u8], out: &mut [u8]) -> usize
+// The listing of a run in a room that no table let in is too long for.
+fn list_run(table: &[u8], steps: &[u8], out: &mut [u8]) -> usize
     requires { ⌜ 40000 ≤ length (now out) ⌝ }
-    ensures { λ r. ⌜ Prints (outcome (now (table .entry)) (now (steps .entry)) (now (room .entry))) (now (room .exit)) (now (out .entry)) r (now (out .exit)) ⌝ }
+    ensures { λ r. ⌜ Prints (printed (outcome (now (table .entry)) (now (steps .entry)) programRoom)) (now (out .entry)) r (now (out .exit)) ⌝ }
     ensures { λ r. ⌜ Counts r (now (out .exit)) ⌝ }
 {
-    let ran = run(table, steps, room);
+    let mut room = [0u8; TABLE_LIMIT];
+    let ran = run(table, steps, &mut room);
     let end = 512 * (ran.stations as usize);
     write_listing(out, ran.answer, ran.done, ran.stations, &room[..end])
 }
 
-// Reads until the buffer is full or the file ends.
-fn read_whole(fd: i32, buf: &mut [u8]) -> Got
-    ensures { λ r. ⌜ Counts (r .n) (now (buf .exit)) ⌝ }
+// All that the program prints of its two files, from the start of `out`: of each, whether it could be read and the bytes that were read,
+// one more than its limit where it has more. How many bytes are printed is returned; those past them are not touched.
+pub fn list_files(
+    table_read: bool,
+    table: &[u8],
+    steps_read: bool,
+    steps: &[u8],
+    out: &mut [u8; 40000],
+) -> usize
+    ensures { λ r. ⌜ Prints (programText (record { isRead = «table_read»; bytes = now (table .entry) }) (record { isRead = «steps_read»; bytes = now (steps .entry) })) (now (out .entry)) r (now (out .exit)) ⌝ }
+    ensures { λ r. ⌜ Counts r (now (out .exit)) ⌝ }
 {
-    let n = buf.len();
-    let mut done: usize = 0;
-    while done < n {
-        let rest = &mut buf[done..];
-        let got = libc::read(fd, rest);
-        if got < 0 {
-            return Got { n: 0, failed: true };
-        }
-        let k = io::count(got, rest);
-        if k == 0 {
-            break;
-        }
-        done += k;
+    if files_hold(table_read, table, steps_read, steps) {
+        return list_run(table, steps, out);
     }
-    Got {
-        n: done,
-        failed: false,
-    }
+    write_listing(out, 16, 0, 0, table)
 }
 
-// A file that cannot be opened or read has failed.
-fn read_file(path: &[u8], buf: &mut [u8]) -> Got
-    ensures { λ r. ⌜ Counts (r .n) (now (buf .exit)) ⌝ }
-{
-    let fd = os::open_read(path);
-    if fd < 0 {
-        return Got { n: 0, failed: true };
-    }
-    let got = read_whole(fd, buf);
-    libc::close(fd);
-    got
-}
-
-// 16: "a file can't be read, or is over 32,768 (table) or 49,152 (steps) bytes". The buffers have room for one byte more, so that a
-// file that is too long is seen.
+// Reads the two files, each up to one byte over its limit, and prints their listing. A program has no exit status, so a listing that cannot
+// be written is told on standard error.
 pub fn print_listing(table_path: &[u8], steps_path: &[u8]) {
-    let mut table = [0u8; 32769];
-    let mut steps = [0u8; 49153];
+    let mut table = [0u8; TABLE_LIMIT + 1];
+    let mut steps = [0u8; STEPS_LIMIT + 1];
     let t = read_file(table_path, &mut table);
     let s = read_file(steps_path, &mut steps);
-    if t.failed | s.failed | (32768 < t.n) | (49152 < s.n) {
-        io::write_all(STDOUT_FILENO, b"answer 16 done 0 stations 0\n");
-        return;
-    }
-    let mut room = [0u8; 32768];
     let mut out = [0u8; 40000];
-    let n = list_run(&table[..t.n], &steps[..s.n], &mut room, &mut out);
-    io::write_all(STDOUT_FILENO, &out[..n]);
+    let n = list_files(t.is_read, &table[..t.n], s.is_read, &steps[..s.n], &mut out);
+    if !io::write_all(STDOUT_FILENO, &out[..n]) {
+        os::fail(b"standard output");
+    }
 }

@@ -4,8 +4,8 @@ use mathlib.Core.Path.{_≡_}
 use borrow.Author.Needs.{needs}
 use lib.ListN.{length}
 use Rattle.io.proofs.Counting.{counts}
-use Rattle.printing.proofs.read_whole.Statement.{statement}
-use Rattle.printing.proofs.read_whole.Tie as tie
+use Rattle.printing.proofs.files.read_whole.Statement.{statement}
+use Rattle.printing.proofs.files.read_whole.Tie as tie
 
 abbrev Inv-loop : tie.InvT-loop
 Inv-loop fd buf₀ n done₀ buf done = (length buf ≡ n) × (done ≤ n)
