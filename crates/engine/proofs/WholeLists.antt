@@ -51,7 +51,7 @@ after-sound t steps h =
     (line.run-keeps-accepted (lineOf t) (stepsOf steps) (a .1), line.run-keeps-written (lineOf t) (stepsOf steps) (a .1) (a .2))
 
 -- its bytes begin the room
-table-in-ended : (t steps room : List ℕ) → faultOf t ≡ 0 → tableIn (endedWith (runOf t steps) room) ≡ bytesOf ((runOf t steps) .line)
+pub table-in-ended : (t steps room : List ℕ) → faultOf t ≡ 0 → tableIn (endedWith (runOf t steps) room) ≡ bytesOf ((runOf t steps) .line)
 table-in-ended t steps room h =
     let l = (runOf t steps) .line in
     take-at (bytesOf l) (drop (512 * length l) room) (512 * length l) (written-size l (after-sound t steps h .0 .small))

@@ -1,13 +1,12 @@
 -- A run in a room as long as its table: it answers neither 9 nor 16, and which room it is plays no part in what is printed of it.
-use Prim.Native.Nat.{ℕ, _*_, _≤_}
+use Prim.Native.Nat.{ℕ, _≤_}
 use mathlib.Core.Path.{_≡_, refl, sym, _∙_}
 use mathlib.Core.Bool.{Bool, true, false, cond}
 use mathlib.Core.Logic.{_≢_}
 use mathlib.Core.List.{List, [], _∷_}
 use native.Mathlib.Omega.{arith}
 use lib.Dec.{eqb, leb}
-use lib.ListN.{length, drop}
-use lib.Seq.{take-at}
+use lib.ListN.{length}
 use borrow.Author.Tests.{eqb-true, leb-true, le-leb}
 use Rattle.lists.specs.Lists.{all}
 use Rattle.lists.proofs.Lists.{and-both}
@@ -17,11 +16,10 @@ use Rattle.line.specs.declared.Ending.the-variants.{Complete, Stopped}
 use Rattle.line.specs.Answer.{endingNumber}
 use Rattle.table.specs.Blocks.{nodes, bytesOf}
 use Rattle.table.specs.Fault.{Test, firstFailing, faultOf}
-use Rattle.arrays.proofs.Writing.{written-size}
 use Rattle.text.specs.Listing.{listingText}
 use Rattle.finishing.specs.Ended.{runOf, endedWith}
 use Rattle.engine.specs.Ran.{listHolds, roomHolds, faultBefore, refusedWith, outcome}
-use Rattle.engine.proofs.WholeLists.{table-fault, after-sound}
+use Rattle.engine.proofs.WholeLists.{table-fault, table-in-ended}
 use Rattle.printing.specs.Printed.{printed}
 
 -- a number that a run answers
@@ -76,9 +74,7 @@ ended-printed : (t steps room : List ℕ) → faultOf t ≡ 0
     → printed (endedWith (runOf t steps) room)
     ≡ listingText (endingNumber ((runOf t steps) .ending)) ((runOf t steps) .steps) (length ((runOf t steps) .line)) (nodes (bytesOf ((runOf t steps) .line)))
 unfolding printed
-ended-printed t steps room h =
-    let l = (runOf t steps) .line in
-    rw (take-at (bytesOf l) (drop (512 * length l) room) (512 * length l) (written-size l (after-sound t steps h .0 .small)))
+ended-printed t steps room h = rw (table-in-ended t steps room h)
 
 -- nor has the listing of a refused one
 refused-printed : (n : ℕ) (room room′ : List ℕ) → printed (refusedWith n room) ≡ printed (refusedWith n room′)
