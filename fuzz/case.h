@@ -9,9 +9,9 @@
 #include <stddef.h>
 #include <stdint.h>
 
+#include "layout.h"
+
 enum {
-    BLOCK = 512,
-    STEP = 12,
     HEAD = 16,
     MOST_TABLE = 66 * BLOCK,
     MOST_STEPS = 4098 * STEP,
@@ -27,16 +27,6 @@ struct cut {
     size_t table_len, steps_len, room_len;
     uint32_t station;
 };
-
-static inline uint32_t get16(const uint8_t *at)
-{
-    return (uint32_t)at[0] | (uint32_t)at[1] << 8;
-}
-
-static inline uint32_t get32(const uint8_t *at)
-{
-    return get16(at) | get16(at + 2) << 16;
-}
 
 static inline size_t smaller(size_t a, size_t b)
 {

@@ -12,20 +12,16 @@
  *
  * The archive itself is not instrumented: it has no coverage counters and no sanitizer checks inside. Three things stand in for that.
  * What the archive answers and writes is told to the fuzzer as extra counters (`tell` below), so that inputs with new outcomes are kept.
- * The mutator of fuzz/mutate.c knows the layout and follows the run, so that deep states are reached. And each area handed over lies
- * against a page that may not be touched, at its end or at its beginning, with table and step list not writable, so that a byte
- * read or written outside, or a lent one changed, stops the program. */
-#define _GNU_SOURCE
+ * The mutator of fuzz/mutate.c knows the layout and follows the run, so that deep states are reached. And what is handed over lies
+ * against a page that may not be touched (tests/c/areas.h), so that a byte read or written outside, or a lent one changed, stops the
+ * program. */
+#include "areas.h"
 #include "case.h"
 #include "station_line.h"
 
 #include <stdio.h>
 #include <stdlib.h>
 #include <string.h>
-#include <sys/mman.h>
-#include <unistd.h>
-
-enum { PAGE = 4096, PATTERN = 0xA5, BESIDE = 512 };
 
 int LLVMFuzzerTestOneInput(const uint8_t *data, size_t size);
 
@@ -62,44 +58,6 @@ static void law(int holds, const char *what)
     }
 }
 
-/* An area between two pages that may not be touched. The same memory is seen twice: `pages` is handed over, writable for a room only,
- * and the harness writes through `own`. */
-struct area {
-    uint8_t *pages, *own;
-    size_t size;
-};
-
-static struct area area_for(size_t most, int rights)
-{
-    struct area a;
-    a.size = (most + PAGE - 1) / PAGE * PAGE;
-    int memory = memfd_create("area", 0);
-    law(memory >= 0 && ftruncate(memory, (off_t)a.size) == 0, "memory for the harness");
-    uint8_t *all = mmap(NULL, a.size + 2 * PAGE, PROT_NONE, MAP_PRIVATE | MAP_ANONYMOUS, -1, 0);
-    law(all != MAP_FAILED, "memory for the harness");
-    a.pages = mmap(all + PAGE, a.size, rights, MAP_SHARED | MAP_FIXED, memory, 0);
-    a.own = mmap(NULL, a.size, PROT_READ | PROT_WRITE, MAP_SHARED, memory, 0);
-    law(a.pages == all + PAGE && a.own != MAP_FAILED, "memory for the harness");
-    close(memory);
-    return a;
-}
-
-/* Where len bytes begin in the area: they lie against its end or its beginning. */
-static size_t within(struct area a, size_t len, int at_end)
-{
-    return at_end ? a.size - len : 0;
-}
-
-/* Bytes handed over, which are not writable where they are. */
-static const uint8_t *lend(struct area a, const uint8_t *bytes, size_t len, int at_end)
-{
-    size_t at = within(a, len, at_end);
-    if (len > 0) {
-        memcpy(a.own + at, bytes, len);
-    }
-    return a.pages + at;
-}
-
 static struct area tables, lists, rooms;
 
 struct result {
@@ -107,22 +65,13 @@ struct result {
     uint8_t bytes[MOST_TABLE];
 };
 
-static int all_pattern(const uint8_t *bytes, size_t len)
-{
-    return len == 0 || (bytes[0] == PATTERN && memcmp(bytes, bytes + 1, len - 1) == 0);
-}
-
 /* One run in a painted room, with the laws about the room and the counts. */
 static void run(struct result *r, const uint8_t *table, size_t table_len, const uint8_t *steps, size_t steps_len, size_t room_len,
-                int at_end)
+                enum place place)
 {
-    const uint8_t *t = lend(tables, table, table_len, at_end);
-    const uint8_t *s = lend(lists, steps, steps_len, at_end);
-    /* The room is painted with what lies beside it, as far as that is in the area. */
-    size_t at = within(rooms, room_len, at_end), end = smaller(at + room_len + BESIDE, rooms.size);
-    size_t begin = at < BESIDE ? 0 : at - BESIDE;
-    memset(rooms.own + begin, PATTERN, end - begin);
-    uint8_t *room = rooms.pages + at;
+    const uint8_t *t = lend_bytes(&tables, table, table_len, place);
+    const uint8_t *s = lend_bytes(&lists, steps, steps_len, place);
+    uint8_t *room = lend_room(&rooms, room_len, place);
     r->ran = station_line_run(t, table_len, s, steps_len, room, room_len);
     size_t written = (size_t)r->ran.stations * BLOCK;
     law(r->ran.answer <= 15, "the answer is one of the table");
@@ -133,8 +82,7 @@ static void run(struct result *r, const uint8_t *table, size_t table_len, const 
         law(steps_len % STEP == 0 && r->ran.done <= steps_len / STEP, "no more steps than the list has");
         law((r->ran.answer == 0) == (r->ran.done == steps_len / STEP), "all steps are done exactly at 0");
     }
-    law(all_pattern(rooms.pages + begin, at - begin), "nothing before the room is touched");
-    law(all_pattern(room + written, end - at - written), "nothing past the written table is touched");
+    law(rest_untouched(&rooms, room_len, place, written), "nothing but the written table is touched");
     memcpy(r->bytes, room, written);
 }
 
@@ -167,10 +115,10 @@ static const uint8_t *block_of(const uint8_t *table, size_t table_len, uint32_t 
 }
 
 /* The questions and the view, on the table as it was handed over. */
-static void ask(const struct cut *c, uint32_t fault, int at_end)
+static void ask(const struct cut *c, uint32_t fault, enum place place)
 {
     static struct result plain, exited;
-    const uint8_t *table = lend(tables, c->table, c->table_len, at_end);
+    const uint8_t *table = lend_bytes(&tables, c->table, c->table_len, place);
     struct station_line_told leave = station_line_may_leave(table, c->table_len, c->station);
     struct station_line_told line = station_line_in_line(table, c->table_len);
     size_t blocks = fault == 0 ? c->table_len / BLOCK : 0;
@@ -187,7 +135,7 @@ static void ask(const struct cut *c, uint32_t fault, int at_end)
         law(line.answer == fault && line.yes == 0, "the line question gives the check's number");
         return;
     }
-    run(&plain, c->table, c->table_len, NULL, 0, c->table_len, at_end);
+    run(&plain, c->table, c->table_len, NULL, 0, c->table_len, place);
     law(plain.ran.answer == 0 && plain.ran.stations == blocks, "no steps, no change");
     law(line.answer == 0 && line.yes == (uint32_t)rises_in_line(plain.bytes, blocks, "blocks rise"), "the line question");
     const uint8_t *block = block_of(c->table, c->table_len, c->station);
@@ -196,7 +144,7 @@ static void ask(const struct cut *c, uint32_t fault, int at_end)
     if (1 <= c->station && c->station <= LARGEST) {
         uint8_t step[STEP] = {3};
         memcpy(step + 4, (uint8_t[]){(uint8_t)c->station, (uint8_t)(c->station >> 8), (uint8_t)(c->station >> 16), 0}, 4);
-        run(&exited, c->table, c->table_len, step, STEP, c->table_len, at_end);
+        run(&exited, c->table, c->table_len, step, STEP, c->table_len, place);
         uint32_t got = exited.ran.answer;
         if (block == NULL) {
             law(got == 11, "an exit of an absent station");
@@ -231,64 +179,85 @@ static void tell_run(const struct result *r, const struct cut *c)
     }
 }
 
+/* What a run of the table and the list answers, beside the check's number. */
+static void laws_of_answer(const struct cut *c, uint32_t fault, uint32_t answer)
+{
+    law(fault == 0 ? answer == 0 || answer > 7 : answer == fault, "check and run give the same number of 1 to 7");
+    if (fault == 0) {
+        int bad_list = c->steps_len % STEP != 0 || c->steps_len > 4096 * STEP;
+        law((answer == 8) == bad_list, "8 tells of the list");
+        law((answer == 9) == (!bad_list && c->room_len < c->table_len), "9 tells of the room");
+    }
+}
+
+/* The blocks in the opposite order, against the opposite pages. */
+static void turn_blocks(const struct cut *c, const struct result *whole, enum place place)
+{
+    static uint8_t turned[MOST_TABLE];
+    static struct result again;
+    if (c->table_len % BLOCK != 0) {
+        return;
+    }
+    for (size_t at = 0; at < c->table_len; at += BLOCK) {
+        memcpy(turned + (c->table_len - BLOCK - at), c->table + at, BLOCK);
+    }
+    run(&again, turned, c->table_len, c->steps, c->steps_len, c->room_len, place == BEHIND ? BEFORE : BEHIND);
+    same(whole, &again, "the order of the blocks plays no part");
+}
+
+/* What was written, checked and run with no steps. */
+static void read_back(const struct result *whole, enum place place)
+{
+    static struct result again;
+    size_t written = (size_t)whole->ran.stations * BLOCK;
+    rises_in_line(whole->bytes, whole->ran.stations, "written blocks rise");
+    law(station_line_check(lend_bytes(&tables, whole->bytes, written, place), written) == 0, "what is written is accepted");
+    run(&again, whole->bytes, written, NULL, 0, written, place);
+    law(again.ran.answer == 0 && again.ran.stations == whole->ran.stations, "what is written runs with no steps");
+    law(memcmp(again.bytes, whole->bytes, written) == 0, "a run with no steps writes the same bytes");
+}
+
+/* The list cut in two. */
+static void cut_list(const struct cut *c, const struct result *whole, enum place place)
+{
+    static struct result first, second;
+    size_t total = c->steps_len / STEP;
+    size_t k = total == 0 ? 0 : (c->station / 4) % (total + 1);
+    run(&first, c->table, c->table_len, c->steps, k * STEP, c->table_len, place);
+    if (first.ran.answer != 0) {
+        same(&first, whole, "a refusal in the first part ends the whole list");
+        return;
+    }
+    size_t left = (size_t)first.ran.stations * BLOCK;
+    run(&second, first.bytes, left, c->steps + k * STEP, (total - k) * STEP, left, place);
+    second.ran.done += (uint32_t)k;
+    same(&second, whole, "two parts give what the whole list gives");
+}
+
 int LLVMFuzzerTestOneInput(const uint8_t *data, size_t size)
 {
-    static struct result whole, again, first, second;
+    static struct result whole;
     if (tables.pages == NULL) {
-        tables = area_for(MOST_TABLE, PROT_READ);
-        lists = area_for(MOST_STEPS, PROT_READ);
-        rooms = area_for(MOST_ROOM, PROT_READ | PROT_WRITE);
+        tables = area_of_bytes(MOST_TABLE);
+        lists = area_of_bytes(MOST_STEPS);
+        rooms = area_of_room(MOST_ROOM);
     }
     struct cut c = cut(data, size);
-    int at_end = (int)(c.station % 4 != 0);
-    uint32_t fault = station_line_check(lend(tables, c.table, c.table_len, at_end), c.table_len);
+    enum place place = c.station % 4 == 0 ? BEFORE : BEHIND;
+    uint32_t fault = station_line_check(lend_bytes(&tables, c.table, c.table_len, place), c.table_len);
     law(fault <= 7, "the check's number is one of 0 to 7");
     law((fault == 1) == (c.table_len % BLOCK != 0), "1 tells of the length");
     tell(0, fault, size_class(c.table_len / BLOCK), 0);
-    ask(&c, fault, at_end);
-
-    run(&whole, c.table, c.table_len, c.steps, c.steps_len, c.room_len, at_end);
-    uint32_t answer = whole.ran.answer;
-    answers_met[answer]++;
-    law(fault == 0 ? answer == 0 || answer > 7 : answer == fault, "check and run give the same number of 1 to 7");
-    if (fault == 0) {
-        int bad_list = c.steps_len % STEP != 0 || c.steps_len > 4096 * STEP;
-        law((answer == 8) == bad_list, "8 tells of the list");
-        law((answer == 9) == (!bad_list && c.room_len < c.table_len), "9 tells of the room");
-    }
+    ask(&c, fault, place);
+    run(&whole, c.table, c.table_len, c.steps, c.steps_len, c.room_len, place);
+    answers_met[whole.ran.answer]++;
+    laws_of_answer(&c, fault, whole.ran.answer);
     tell_run(&whole, &c);
-
-    /* The blocks in the opposite order. */
-    static uint8_t turned[MOST_TABLE];
-    if (c.table_len % BLOCK == 0) {
-        for (size_t at = 0; at < c.table_len; at += BLOCK) {
-            memcpy(turned + (c.table_len - BLOCK - at), c.table + at, BLOCK);
-        }
-        run(&again, turned, c.table_len, c.steps, c.steps_len, c.room_len, !at_end);
-        same(&whole, &again, "the order of the blocks plays no part");
-    }
-    if (1 <= answer && answer <= 9) {
+    turn_blocks(&c, &whole, place);
+    if (1 <= whole.ran.answer && whole.ran.answer <= 9) {
         return 0;
     }
-
-    size_t written = (size_t)whole.ran.stations * BLOCK;
-    rises_in_line(whole.bytes, whole.ran.stations, "written blocks rise");
-    law(station_line_check(lend(tables, whole.bytes, written, at_end), written) == 0, "what is written is accepted");
-    run(&again, whole.bytes, written, NULL, 0, written, at_end);
-    law(again.ran.answer == 0 && again.ran.stations == whole.ran.stations, "what is written runs with no steps");
-    law(memcmp(again.bytes, whole.bytes, written) == 0, "a run with no steps writes the same bytes");
-
-    /* The list cut in two. */
-    size_t total = c.steps_len / STEP;
-    size_t k = total == 0 ? 0 : (c.station / 4) % (total + 1);
-    run(&first, c.table, c.table_len, c.steps, k * STEP, c.table_len, at_end);
-    if (first.ran.answer != 0) {
-        same(&first, &whole, "a refusal in the first part ends the whole list");
-    } else {
-        size_t left = (size_t)first.ran.stations * BLOCK;
-        run(&second, first.bytes, left, c.steps + k * STEP, (total - k) * STEP, left, at_end);
-        second.ran.done += (uint32_t)k;
-        same(&second, &whole, "two parts give what the whole list gives");
-    }
+    read_back(&whole, place);
+    cut_list(&c, &whole, place);
     return 0;
 }

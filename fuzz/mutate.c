@@ -20,27 +20,6 @@ static uint32_t below(uint32_t n)
     return (uint32_t)(((uint64_t)state * n) >> 32);
 }
 
-static void put16(uint8_t *at, uint32_t value)
-{
-    at[0] = (uint8_t)value;
-    at[1] = (uint8_t)(value >> 8);
-}
-
-static void put32(uint8_t *at, uint32_t value)
-{
-    put16(at, value);
-    put16(at + 2, value >> 16);
-}
-
-static void seal(uint8_t *block)
-{
-    uint32_t sum = 0;
-    for (size_t i = 0; i < BLOCK - 2; i += 2) {
-        sum += get16(block + i);
-    }
-    put16(block + BLOCK - 2, 65535 - (sum & 65535));
-}
-
 /* The case at hand, taken apart. */
 static uint8_t table[MOST_TABLE], steps[MOST_STEPS], room[MOST_TABLE];
 static size_t table_len, steps_len, room_len;
@@ -69,14 +48,11 @@ static uint32_t some_station(void)
     }
 }
 
-static void add_message(uint8_t *block, uint32_t kind, uint32_t number)
+/* A message more, where there is a place for it. */
+static void fill_place(uint8_t *block, uint32_t kind, uint32_t number)
 {
-    uint32_t count = get16(block + 16);
-    if (count < 32) {
-        uint8_t *place = block + 20 + 8 * (size_t)count;
-        put16(place, kind);
-        put32(place + 4, kind == 1 ? number : 0);
-        put16(block + 16, count + 1);
+    if (get16(block + 16) < 32) {
+        add_message(block, kind, kind == 1 ? number : 0);
     }
 }
 
@@ -100,11 +76,8 @@ static void add_block(void)
         return;
     }
     uint8_t *b = table + table_len - table_len % BLOCK;
-    memset(b, 0, BLOCK);
     table_len = (size_t)(b - table) + BLOCK;
-    put16(b, 1);
-    put16(b + 2, below(2));
-    put32(b + 4, number);
+    put_block(b, number, 0, 0, (int)below(2));
 }
 
 /* A neighbour on its own side, or none. */
@@ -157,12 +130,12 @@ static void change_table(void)
         break;
     case 4:
     case 5:
-        add_message(b, 1 + below(3), some_station());
+        fill_place(b, 1 + below(3), some_station());
         break;
     case 6: {
         uint32_t kind = 1 + below(3), number = some_station();
         for (uint32_t wanted = 30 + below(3); get16(b + 16) < wanted && get16(b + 16) < 32;) {
-            add_message(b, kind, number);
+            fill_place(b, kind, number);
         }
         break;
     }
@@ -208,11 +181,7 @@ static void clear_unknown(void)
 static void add_step(uint32_t action, uint32_t kind, uint32_t at, uint32_t number)
 {
     if (steps_len + STEP <= MOST_STEPS) {
-        uint8_t *s = steps + steps_len;
-        put16(s, action);
-        put16(s + 2, kind);
-        put32(s + 4, at);
-        put32(s + 8, number);
+        put_step(steps + steps_len, action, kind, at, number);
         steps_len += STEP;
     }
 }

@@ -9,7 +9,7 @@ int LLVMFuzzerTestOneInput(const uint8_t *data, size_t size);
 
 int main(int argc, char **argv)
 {
-    static uint8_t data[HEAD + MOST_TABLE + MOST_STEPS];
+    static uint8_t data[HEAD + MOST_TABLE + MOST_STEPS + 1];
     for (int k = 1; k < argc; k++) {
         FILE *file = fopen(argv[k], "rb");
         if (file == NULL) {
@@ -17,6 +17,10 @@ int main(int argc, char **argv)
             return 2;
         }
         size_t size = fread(data, 1, sizeof data, file);
+        if (ferror(file) || !feof(file)) {
+            fprintf(stderr, "%s: not read to its end\n", argv[k]);
+            return 2;
+        }
         fclose(file);
         fprintf(stderr, "%s\n", argv[k]);
         LLVMFuzzerTestOneInput(data, size);
@@ -26,5 +30,5 @@ int main(int argc, char **argv)
         printf(" %d: %llu%s", k, (unsigned long long)answers_met[k], k < 15 ? "," : "\n");
     }
     printf("%d passed, 0 failed\n", argc - 1);
-    return 0;
+    return argc == 1;
 }

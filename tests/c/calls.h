@@ -1,0 +1,29 @@
+/* The five functions of include/station_line.h, called with what they are handed at every place of the guarded areas. */
+#ifndef CALLS_H
+#define CALLS_H
+
+#include <stddef.h>
+#include <stdint.h>
+
+#include "station_line.h"
+
+/* Some bytes; the pointer is not null, also where there are none. */
+struct bytes {
+    const uint8_t *at;
+    size_t len;
+};
+
+extern const struct bytes no_bytes;
+
+/* Makes the areas, for tables and rooms of up to 66 blocks and lists of up to 4,097 steps. */
+void make_areas(void);
+
+/* What a run returns, the bytes that it writes, and that it touches no other byte of the room or beside it. */
+void expect_run(struct bytes table, struct bytes steps, size_t room_len, struct station_line_ran wanted, struct bytes written);
+
+void expect_check(struct bytes table, uint32_t answer);
+void expect_leave(struct bytes table, uint32_t station, uint32_t answer, uint32_t yes);
+void expect_line(struct bytes table, uint32_t answer, uint32_t yes);
+void expect_view(struct bytes table, size_t position, struct station_line_viewed wanted);
+
+#endif

@@ -1,0 +1,78 @@
+/* The questions of tests/questions.txt. cases.bin: for each case the lengths of table, step list and room, then table and step list.
+ * questions.txt: the number of a case, `leave` and a station or `line`, the number and yes. */
+#include <stdio.h>
+#include <stdlib.h>
+#include <string.h>
+
+#include "calls.h"
+#include "cases.h"
+#include "tries.h"
+
+static uint8_t *read_file(const char *path, size_t *len) {
+    FILE *file = fopen(path, "rb");
+    if (!file || fseek(file, 0, SEEK_END) != 0) {
+        perror(path);
+        exit(2);
+    }
+    *len = (size_t)ftell(file);
+    rewind(file);
+    uint8_t *bytes = malloc(*len + 1);
+    if (!bytes || fread(bytes, 1, *len, file) != *len) {
+        perror(path);
+        exit(2);
+    }
+    fclose(file);
+    return bytes;
+}
+
+static struct bytes find_table(const uint8_t *cases, size_t len, unsigned wanted) {
+    size_t at = 0;
+    for (unsigned k = 1; at + 12 <= len; k++) {
+        size_t table = get32(cases + at), steps = get32(cases + at + 4);
+        if (k == wanted)
+            return (struct bytes){cases + at + 12, table};
+        at += 12 + table + steps;
+    }
+    printf("no case %u\n", wanted);
+    exit(2);
+}
+
+/* One line; the case that it asks about is returned. */
+static unsigned ask(const char *line, unsigned before, const uint8_t *cases, size_t len) {
+    char word[16], what[64];
+    unsigned number, station = 0, answer, yes;
+    int leave = sscanf(line, "%u %15s %u %u %u", &number, word, &station, &answer, &yes) == 5 && strcmp(word, "leave") == 0;
+    if (!leave && (sscanf(line, "%u %15s %u %u", &number, word, &answer, &yes) != 4 || strcmp(word, "line") != 0)) {
+        begin_case(line);
+        expect(0, "the line is a question");
+        return 0;
+    }
+    if (number != before) {
+        (void)snprintf(what, sizeof what, "stored questions about the table of case %u", number);
+        begin_case(what);
+    }
+    struct bytes table = find_table(cases, len, number);
+    if (leave)
+        expect_leave(table, station, answer, yes);
+    else
+        expect_line(table, answer, yes);
+    return number;
+}
+
+void try_stored(const char *cases_path, const char *questions_path) {
+    size_t len;
+    uint8_t *cases = read_file(cases_path, &len);
+    FILE *questions = fopen(questions_path, "r");
+    if (!questions) {
+        perror(questions_path);
+        exit(2);
+    }
+    char line[128];
+    unsigned asked = 0, number = 0;
+    for (; fgets(line, sizeof line, questions); asked++)
+        number = ask(line, number, cases, len);
+    begin_case("there are stored questions");
+    expect(asked > 0, questions_path);
+    fclose(questions);
+    free(cases);
+}
