@@ -15,6 +15,15 @@ pub struct Told {
     pub yes: u32,
 }
 
+#[repr(C)]
+#[derive(Clone, Copy, Debug, PartialEq, Eq)]
+pub struct Viewed {
+    pub answer: u32,
+    pub has_block: u32,
+    pub offset: usize,
+    pub next: usize,
+}
+
 unsafe extern "C" {
     fn station_line_check(table: *const u8, table_len: usize) -> u32;
     fn station_line_run(
@@ -27,6 +36,7 @@ unsafe extern "C" {
     ) -> Ran;
     fn station_line_may_leave(table: *const u8, table_len: usize, station: u32) -> Told;
     fn station_line_in_line(table: *const u8, table_len: usize) -> Told;
+    fn station_line_view(table: *const u8, table_len: usize, position: usize) -> Viewed;
 }
 
 /// What an untouched byte of the room or of its surroundings holds.
@@ -121,6 +131,10 @@ pub fn may_leave(table: &Lent, station: u32) -> Told {
 
 pub fn in_line(table: &Lent) -> Told {
     unsafe { station_line_in_line(table.pointer(), table.len) }
+}
+
+pub fn view(table: &Lent, position: usize) -> Viewed {
+    unsafe { station_line_view(table.pointer(), table.len, position) }
 }
 
 /// A run with a room of just the table's length: its numbers and the bytes written. For comparing two receivers.

@@ -1,13 +1,10 @@
-//! One case: a table, a step list and a room of one kind, and the comparison of the archive with the model on it.
+//! One case: a table, a step list and a room of one kind.
 
 use model::{STEP, Table};
 
-use crate::archive::{self, Lent, Told, all_pattern};
-use crate::joined;
 use crate::random::Random;
 use crate::steps::{self, RULES};
 use crate::tables::{self, ANY, BLOCK, Wish};
-use crate::tally::Tally;
 
 pub const KINDS: [&str; 13] = [
     "steps that are done",
@@ -24,7 +21,7 @@ pub const KINDS: [&str; 13] = [
     "one bit of a block turned",
     "one bit of a step turned",
 ];
-const RECEIVERS: usize = 10;
+pub const RECEIVERS: usize = 10;
 const BLOCK_BIT: usize = 11;
 const STEP_BIT: usize = 12;
 const WEIGHTS: [usize; 11] = [25, 24, 8, 15, 8, 8, 2, 3, 3, 3, 1];
@@ -268,223 +265,6 @@ fn room(random: &mut Random, table: usize, short: bool) -> usize {
         3 => table + random.from_to(101, 4000),
         _ if table > 0 => shorter(random),
         _ => random.from_to(0, 600),
-    }
-}
-
-fn told(answer: Result<bool, u32>) -> Told {
-    match answer {
-        Ok(yes) => Told {
-            answer: 0,
-            yes: u32::from(yes),
-        },
-        // "A question returns the number alone": yes is 0 beside it.
-        Err(answer) => Told { answer, yes: 0 },
-    }
-}
-
-/// Prints what the model and the archive make of the case's run, for a replay.
-pub fn show(case: &Case) {
-    println!(
-        "{}: a table of {} bytes, a list of {} bytes, a room of {} bytes",
-        KINDS[case.kind],
-        case.table.len(),
-        case.steps.len(),
-        case.room
-    );
-    if let Ok(table) = model::read_table(&case.table) {
-        let before = model::Ran {
-            answer: 0,
-            done: 0,
-            table: Some(table),
-        };
-        print!("the table:\n{}", model::listing(&before));
-    }
-    for step in case.steps.chunks_exact(STEP).take(model::MOST_STEPS) {
-        match model::read_step(step) {
-            Ok(step) => println!("step {step:?}"),
-            Err(_) => println!("step {step:?}, malformed"),
-        }
-    }
-    let wanted = model::run(&case.table, &case.steps, case.room);
-    print!("the model:\n{}", model::listing(&wanted));
-    let mut room = Lent::room(case.room, 0, false);
-    let table = Lent::copy(&case.table, 0, false);
-    let ran = archive::run(&table, &Lent::copy(&case.steps, 0, false), &mut room);
-    println!("the archive:\n{ran:?}");
-    let length = BLOCK * ran.stations as usize;
-    match room.bytes().get(..length).map(model::read_table) {
-        Some(Ok(table)) => {
-            let written = model::Ran {
-                answer: ran.answer,
-                done: ran.done as usize,
-                table: Some(table),
-            };
-            print!("{}", model::listing(&written));
-        }
-        _ => println!("what it wrote is no table"),
-    }
-}
-
-/// Compares the archive with the model on every answer, count and byte; an error says where they differ.
-pub fn compare(random: &mut Random, case: &Case, tally: &mut Tally) -> Result<(), String> {
-    let null = random.percent(50);
-    let table = Lent::copy(&case.table, random.below(16), null);
-    let list = Lent::copy(&case.steps, random.below(16), null);
-    let mut room = Lent::room(case.room, random.below(16), null);
-
-    let ran = archive::run(&table, &list, &mut room);
-    let wanted = model::run(&case.table, &case.steps, case.room);
-    let numbers = archive::Ran {
-        answer: wanted.answer,
-        done: wanted.done as u32,
-        stations: wanted.stations() as u32,
-    };
-    tally.ran(&wanted, case);
-    if ran != numbers {
-        return Err(format!(
-            "run: the archive gives {ran:?}, the model {numbers:?}"
-        ));
-    }
-    let written = wanted.written();
-    if room.bytes()[..written.len()] != written[..] {
-        let at = room.bytes().iter().zip(&written).position(|(a, b)| a != b);
-        return Err(format!("run: the table written differs at byte {at:?}"));
-    }
-    if !all_pattern(&room.bytes()[written.len()..]) {
-        return Err("run: a byte of the room past the table was touched".to_string());
-    }
-
-    let checked = archive::check(&table);
-    let number = model::check(&case.table);
-    tally.check[number as usize] += 1;
-    if checked != number {
-        return Err(format!(
-            "check: the archive gives {checked}, the model {number}"
-        ));
-    }
-
-    let line = archive::in_line(&table);
-    let wanted_line = told(model::in_line(&case.table));
-    tally.line.count(wanted_line);
-    if line != wanted_line {
-        return Err(format!(
-            "in line: the archive gives {line:?}, the model {wanted_line:?}"
-        ));
-    }
-
-    for station in asked(random, &case.table) {
-        let leave = archive::may_leave(&table, station);
-        let wanted = told(model::may_leave(&case.table, station));
-        tally.leave.count(wanted);
-        if leave != wanted {
-            return Err(format!(
-                "may {station} leave: the archive gives {leave:?}, the model {wanted:?}"
-            ));
-        }
-    }
-
-    if table.bytes() != case.table || list.bytes() != case.steps {
-        return Err("the caller's table or step list was changed".to_string());
-    }
-    if !(table.guards_whole() && list.guards_whole() && room.guards_whole()) {
-        return Err("a byte outside the lent memory was changed".to_string());
-    }
-
-    if wanted.table.is_some() {
-        same_joins(case, ran, &room.bytes()[..written.len()], tally)?;
-    }
-    if case.kind == RECEIVERS || random.percent(15) {
-        two_receivers(random, case, tally)?;
-    }
-    Ok(())
-}
-
-/// Stations to ask about: some or all that are present, their nearest numbers, and numbers that no station can have.
-fn asked(random: &mut Random, table: &[u8]) -> Vec<u32> {
-    let present: Vec<u32> = table
-        .chunks_exact(BLOCK)
-        .map(|block| u32::from_le_bytes([block[4], block[5], block[6], block[7]]))
-        .collect();
-    let mut asked = Vec::new();
-    if present.is_empty() || random.percent(30) {
-        asked.push(*random.pick(&[0, 1, 999_999, 1_000_000, u32::MAX]));
-    }
-    if present.is_empty() {
-        return asked;
-    }
-    if random.percent(2) {
-        asked.extend(&present);
-    }
-    for _ in 0..2 {
-        asked.push(*random.pick(&present));
-    }
-    let near = *random.pick(&present);
-    let anywhere = random.next() as u32;
-    asked.push(*random.pick(&[
-        near.wrapping_add(1),
-        near.wrapping_sub(1),
-        near ^ 0x1_0000,
-        near ^ 0x0100_0000,
-        anywhere,
-    ]));
-    asked
-}
-
-/// The stations still present are joined as they were, and each that has gone has gone by an exit among the steps done.
-fn same_joins(
-    case: &Case,
-    ran: archive::Ran,
-    written: &[u8],
-    tally: &mut Tally,
-) -> Result<(), String> {
-    let before = joined::groups(&case.table);
-    let after = joined::groups(written);
-    joined::same_groups(&before, &after)?;
-    let exits = case
-        .steps
-        .chunks(STEP)
-        .take(ran.done as usize)
-        .filter(|step| step[0] == 3)
-        .count();
-    if before.len() - after.len() != exits {
-        return Err("stations have gone without an exit".to_string());
-    }
-    tally.joined += 1;
-    tally.joined_several += u64::from(joined::count(&before) > 1);
-    tally.joined_departed += u64::from(exits > 0);
-    tally.exits += exits as u64;
-    Ok(())
-}
-
-/// Receivers that hold the same table in different stored orders write the same bytes and give the same numbers, whether one of
-/// them is handed the list whole or in pieces, with its table stored anew in between.
-fn two_receivers(random: &mut Random, case: &Case, tally: &mut Tally) -> Result<(), String> {
-    let first = archive::receive(&case.table, &case.steps);
-    let mut shuffled = tables::shuffle_bytes(random, &case.table);
-    if archive::receive(&shuffled, &case.steps) != first {
-        return Err("two receivers: another stored order gives something else".to_string());
-    }
-    tally.receivers += 1;
-    if first.0.answer != 0 && first.0.answer < 10 {
-        return Ok(());
-    }
-    tally.receivers_steps += u64::from(first.0.done);
-    let mut rest = &case.steps[..];
-    let mut done = 0;
-    loop {
-        let piece = STEP * random.from_to(1, 1 + rest.len() / STEP / 2);
-        let (now, later) = rest.split_at(piece.min(rest.len()));
-        let (ran, written) = archive::receive(&shuffled, now);
-        done += ran.done;
-        rest = later;
-        if ran.answer != 0 || rest.is_empty() {
-            let whole = archive::Ran { done, ..ran };
-            if (whole, written) != first {
-                return Err("two receivers: a list in pieces gives something else".to_string());
-            }
-            return Ok(());
-        }
-        shuffled = tables::shuffle_bytes(random, &written);
     }
 }
 

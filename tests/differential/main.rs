@@ -1,11 +1,13 @@
 //! Compares the archive, through its C interface, with the model of tests/model on random tables and step lists.
 //!
 //! `--seed N` the seed (else taken from the clock), `--cases N` how many cases, `--seconds N` how long, with progress on the
-//! screen, `--case K` only case K of the seed, with both results shown. The last line is `N passed, M failed`, counting cases.
+//! screen, `--case K` only case K of the seed, with both results shown. The last line is `N passed, M failed`, counting what is compared
+//! over all cases (tally.rs) and not the cases.
 #![deny(warnings)]
 
 mod archive;
 mod cases;
+mod compare;
 mod joined;
 mod random;
 mod steps;
@@ -77,51 +79,62 @@ fn main() -> ExitCode {
     }));
     let started = Instant::now();
     let mut tally = Tally::default();
-    let mut failed = 0;
-    let mut tried = 0;
-    if let Some(number) = options.only {
-        cases::show(&cases::draw(&mut Random::of_case(seed, number), number));
-        failed += u64::from(!one(seed, number, &mut tally, true));
-        tried = 1;
-    } else {
-        let cases = options.cases.unwrap_or(if options.seconds.is_some() {
-            u64::MAX
-        } else {
-            60_000
-        });
-        let limit = options.seconds.map(Duration::from_secs);
-        let mut next_report = Duration::from_secs(10);
-        while tried < cases {
-            if !one(seed, tried, &mut tally, failed < DIFFERENCES_SHOWN) {
-                failed += 1;
-            }
-            tried += 1;
-            if tried % 64 == 0 && limit.is_some() {
-                let gone = started.elapsed();
-                if Some(gone) >= limit {
-                    break;
-                }
-                if gone >= next_report {
-                    println!("{} s: {tried} cases, {failed} failed", gone.as_secs());
-                    next_report = gone + Duration::from_secs(10);
-                }
-            }
-        }
-        tally.print();
-        if tried >= ENOUGH {
-            for what in tally.missing() {
-                println!("never met: {what}");
-                failed += 1;
-            }
-        }
-    }
+    let (tried, different) = match options.only {
+        Some(number) => replay(seed, number, &mut tally),
+        None => many(&options, started, &mut tally),
+    };
     println!("{:.1} s, seed {seed}", started.elapsed().as_secs_f64());
-    println!("{} passed, {failed} failed", tried.saturating_sub(failed));
-    if failed == 0 {
+    let (mut passed, mut failed) = tally.verdict();
+    if tried >= ENOUGH {
+        let missing = tally.missing();
+        for what in &missing {
+            println!("never met: {what}");
+        }
+        passed += u64::from(missing.is_empty());
+        failed += u64::from(!missing.is_empty());
+    }
+    println!("{tried} random cases compared, {different} with a difference");
+    println!("{passed} passed, {failed} failed");
+    if failed == 0 && different == 0 && tried > 0 {
         ExitCode::SUCCESS
     } else {
         ExitCode::FAILURE
     }
+}
+
+/// One case alone, with both results shown: how many were tried and how many differed.
+fn replay(seed: u64, number: u64, tally: &mut Tally) -> (u64, u64) {
+    compare::show(&cases::draw(&mut Random::of_case(seed, number), number));
+    (1, u64::from(!one(seed, number, tally, true)))
+}
+
+/// The cases of a seed from the first one on: how many were tried and how many differed.
+fn many(options: &Options, started: Instant, tally: &mut Tally) -> (u64, u64) {
+    let timed = options.seconds.is_some();
+    let cases = options
+        .cases
+        .unwrap_or(if timed { u64::MAX } else { 60_000 });
+    let limit = options.seconds.map(Duration::from_secs);
+    let mut next_report = Duration::from_secs(10);
+    let (mut tried, mut different) = (0, 0);
+    while tried < cases {
+        if !one(options.seed, tried, tally, different < DIFFERENCES_SHOWN) {
+            different += 1;
+        }
+        tried += 1;
+        if tried % 64 == 0 && timed {
+            let gone = started.elapsed();
+            if Some(gone) >= limit {
+                break;
+            }
+            if gone >= next_report {
+                println!("{} s: {tried} cases, {different} differ", gone.as_secs());
+                next_report = gone + Duration::from_secs(10);
+            }
+        }
+    }
+    tally.print();
+    (tried, different)
 }
 
 /// One case; false where the archive and the model differ.
@@ -129,7 +142,7 @@ fn one(seed: u64, number: u64, tally: &mut Tally, show: bool) -> bool {
     AT_HAND.store(number, Ordering::Relaxed);
     let mut random = Random::of_case(seed, number);
     let case = cases::draw(&mut random, number);
-    let Err(what) = cases::compare(&mut random, &case, tally) else {
+    let Err(what) = compare::compare(&mut random, &case, tally) else {
         return true;
     };
     if show {

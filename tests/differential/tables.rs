@@ -61,7 +61,7 @@ fn seal(block: &mut [u8]) {
 }
 
 pub fn bytes(blocks: &[Block]) -> Vec<u8> {
-    blocks.iter().flat_map(Block::bytes).collect()
+    blocks.iter().map(Block::bytes).collect::<Vec<_>>().concat()
 }
 
 /// The same table in another stored order of blocks and messages.

@@ -2,9 +2,35 @@
 
 use model::{Action, Ran, STEP, read_step};
 
-use crate::archive::Told;
+use crate::archive::{Told, Viewed};
 use crate::cases::{Case, KINDS};
 use crate::steps::RULES;
+
+/// What is compared, each over every case that it fits.
+#[derive(Clone, Copy)]
+pub enum Comparison {
+    Numbers,
+    Room,
+    Check,
+    Line,
+    Leave,
+    View,
+    Lent,
+    Joins,
+    Receivers,
+}
+
+pub const COMPARISONS: [&str; 9] = [
+    "the run's number and counts",
+    "every byte of the room",
+    "the check",
+    "the line question",
+    "the leave question",
+    "the view at every position and past the end",
+    "lent memory, and what lies around it, as it was",
+    "joined stations before and after",
+    "two receivers of one table",
+];
 
 /// The answers to a question: by number, those at 0 parted into no and yes.
 #[derive(Default)]
@@ -24,13 +50,39 @@ impl Answers {
     }
 }
 
+/// What a view gave: blocks, ends of accepted tables, and refusals by number.
+#[derive(Default)]
+pub struct Views {
+    pub blocks: u64,
+    pub ends: u64,
+    pub refused: [u64; 8],
+}
+
+impl Views {
+    pub fn count(&mut self, viewed: Viewed) {
+        match viewed {
+            Viewed {
+                answer: 0,
+                has_block: 0,
+                ..
+            } => self.ends += 1,
+            Viewed { answer: 0, .. } => self.blocks += 1,
+            Viewed { answer, .. } => self.refused[answer as usize] += 1,
+        }
+    }
+}
+
 #[derive(Default)]
 pub struct Tally {
+    /// How often each comparison was made, and how often it differed.
+    pub made: [u64; COMPARISONS.len()],
+    pub different: [u64; COMPARISONS.len()],
     pub kinds: [u64; KINDS.len()],
     pub run: [u64; 16],
     pub check: [u64; 8],
     pub leave: Answers,
     pub line: Answers,
+    pub view: Views,
     /// The refused steps 11 to 15 by action: timeout, deliver, exit.
     pub stopped: [[u64; 3]; 16],
     pub steps_done: u64,
@@ -47,6 +99,20 @@ pub struct Tally {
 }
 
 impl Tally {
+    /// Counts a comparison that was made, and hands on what differed.
+    pub fn compared(&mut self, what: Comparison, result: Result<(), String>) -> Result<(), String> {
+        self.made[what as usize] += 1;
+        self.different[what as usize] += u64::from(result.is_err());
+        result
+    }
+
+    /// The comparisons in which nothing differed, and those in which something did.
+    pub fn verdict(&self) -> (u64, u64) {
+        let made = self.made.iter().filter(|&&count| count > 0).count();
+        let failed = self.different.iter().filter(|&&count| count > 0).count();
+        ((made - failed) as u64, failed as u64)
+    }
+
     pub fn ran(&mut self, ran: &Ran, case: &Case) {
         self.kinds[case.kind] += 1;
         self.run[ran.answer as usize] += 1;
@@ -95,6 +161,11 @@ impl Tally {
             }
         }
         need(self.leave.refused[11], "may leave 11".to_string());
+        need(self.view.blocks, "view of a block".to_string());
+        need(self.view.ends, "view of the end".to_string());
+        for number in 1..=7 {
+            need(self.view.refused[number], format!("view {number}"));
+        }
         for (number, action) in [
             (11, 0),
             (11, 1),
@@ -117,10 +188,26 @@ impl Tally {
         for (name, &count) in KINDS.iter().zip(&self.kinds) {
             need(count, name.to_string());
         }
+        for (name, &count) in COMPARISONS.iter().zip(&self.made) {
+            need(count, name.to_string());
+        }
+        for (name, count) in ["shorter", "equal", "longer"].iter().zip(self.rooms) {
+            need(count, format!("a room {name}"));
+        }
+        need(self.joined_several, "a table in several parts".to_string());
+        need(self.joined_departed, "joins after a departure".to_string());
+        need(
+            self.receivers_steps,
+            "two receivers that do steps".to_string(),
+        );
         missing
     }
 
     pub fn print(&self) {
+        println!("compared:");
+        for ((name, made), different) in COMPARISONS.iter().zip(self.made).zip(self.different) {
+            println!("{made:>10}  {name}, {different} with a difference");
+        }
         println!("cases by kind:");
         for (name, count) in KINDS.iter().zip(&self.kinds) {
             println!("{count:>10}  {name}");
@@ -150,6 +237,12 @@ impl Tally {
                     println!("{count:>10}  {number}");
                 }
             }
+        }
+        println!("answers of the view:");
+        println!("{:>10}  0, a block", self.view.blocks);
+        println!("{:>10}  0, the end", self.view.ends);
+        for (number, count) in self.view.refused.iter().enumerate().skip(1) {
+            println!("{count:>10}  {number}");
         }
         println!("steps done, by rule, of those chosen against the model:");
         for (name, count) in RULES.iter().zip(&self.rules) {

@@ -149,3 +149,10 @@ pub fn in_line(table: &[u8]) -> Result<bool, u32> {
         station.left == smaller && station.right == larger
     }))
 }
+
+/// "A console view holds the caller's table and walks it block by block without a copy": the check's number and no block, "else the blocks
+/// in stored order, each being those 512 bytes of the caller's table, then the end".
+pub fn view(table: &[u8]) -> Result<Vec<&[u8]>, u32> {
+    read_table(table)?;
+    Ok(table.chunks(BLOCK).collect())
+}

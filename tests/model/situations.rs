@@ -399,3 +399,15 @@ fn the_questions() {
     assert_eq!(may_leave(&apart, 7), Ok(true));
     assert_eq!(may_leave(&apart, 9), Ok(false));
 }
+
+/// The view of blocks out of order, of the empty table and of one that isn't accepted.
+#[test]
+fn the_view() {
+    let low = write_table(&table(&[(3, 0, 0, false, &[])]));
+    let high = write_table(&table(&[(9, 0, 0, false, &[])]));
+    let stored = [&high[..], &low[..]].concat();
+    assert_eq!(view(&stored), Ok(vec![&high[..], &low[..]]));
+    assert_eq!(view(&[]), Ok(vec![]));
+    assert_eq!(view(&stored[..1000]), Err(1));
+    assert_eq!(view(&[0; 512]), Err(3));
+}

@@ -1,0 +1,308 @@
+//! The comparison of the archive with the model on one case.
+
+use model::STEP;
+
+use crate::archive::{self, Lent, Told, Viewed, all_pattern};
+use crate::cases::{Case, KINDS, RECEIVERS};
+use crate::joined;
+use crate::random::Random;
+use crate::tables::{self, BLOCK};
+use crate::tally::{Comparison, Tally};
+
+fn told(answer: Result<bool, u32>) -> Told {
+    match answer {
+        Ok(yes) => Told {
+            answer: 0,
+            yes: u32::from(yes),
+        },
+        // "A question returns the number alone": yes is 0 beside it.
+        Err(answer) => Told { answer, yes: 0 },
+    }
+}
+
+/// Prints what the model and the archive make of the case's run, for a replay.
+pub fn show(case: &Case) {
+    println!(
+        "{}: a table of {} bytes, a list of {} bytes, a room of {} bytes",
+        KINDS[case.kind],
+        case.table.len(),
+        case.steps.len(),
+        case.room
+    );
+    if let Ok(table) = model::read_table(&case.table) {
+        let before = model::Ran {
+            answer: 0,
+            done: 0,
+            table: Some(table),
+        };
+        print!("the table:\n{}", model::listing(&before));
+    }
+    for step in case.steps.chunks_exact(STEP).take(model::MOST_STEPS) {
+        match model::read_step(step) {
+            Ok(step) => println!("step {step:?}"),
+            Err(_) => println!("step {step:?}, malformed"),
+        }
+    }
+    let wanted = model::run(&case.table, &case.steps, case.room);
+    print!("the model:\n{}", model::listing(&wanted));
+    let mut room = Lent::room(case.room, 0, false);
+    let table = Lent::copy(&case.table, 0, false);
+    let ran = archive::run(&table, &Lent::copy(&case.steps, 0, false), &mut room);
+    println!("the archive:\n{ran:?}");
+    let length = BLOCK * ran.stations as usize;
+    match room.bytes().get(..length).map(model::read_table) {
+        Some(Ok(table)) => {
+            let written = model::Ran {
+                answer: ran.answer,
+                done: ran.done as usize,
+                table: Some(table),
+            };
+            print!("{}", model::listing(&written));
+        }
+        _ => println!("what it wrote is no table"),
+    }
+}
+
+/// Compares the archive with the model on every answer, count and byte; an error says where they differ.
+pub fn compare(random: &mut Random, case: &Case, tally: &mut Tally) -> Result<(), String> {
+    let null = random.percent(50);
+    let table = Lent::copy(&case.table, random.below(16), null);
+    let list = Lent::copy(&case.steps, random.below(16), null);
+    let mut room = Lent::room(case.room, random.below(16), null);
+    let ran = archive::run(&table, &list, &mut room);
+    let wanted = model::run(&case.table, &case.steps, case.room);
+    let written = wanted.written();
+    tally.ran(&wanted, case);
+    tally.compared(Comparison::Numbers, same_numbers(ran, &wanted))?;
+    tally.compared(Comparison::Room, same_room(&room, &written))?;
+    let checked = same_check(&table, &case.table, tally);
+    tally.compared(Comparison::Check, checked)?;
+    let lined = same_line(&table, &case.table, tally);
+    tally.compared(Comparison::Line, lined)?;
+    let left = same_leave(random, &table, &case.table, tally);
+    tally.compared(Comparison::Leave, left)?;
+    let viewed = same_view(random, &table, &case.table, tally);
+    tally.compared(Comparison::View, viewed)?;
+    tally.compared(Comparison::Lent, lent_whole(case, &table, &list, &room))?;
+    if wanted.table.is_some() {
+        let joined = same_joins(case, ran, &room.bytes()[..written.len()], tally);
+        tally.compared(Comparison::Joins, joined)?;
+    }
+    if case.kind == RECEIVERS || random.percent(15) {
+        let agreed = two_receivers(random, case, tally);
+        tally.compared(Comparison::Receivers, agreed)?;
+    }
+    Ok(())
+}
+
+fn same_numbers(ran: archive::Ran, wanted: &model::Ran) -> Result<(), String> {
+    let numbers = archive::Ran {
+        answer: wanted.answer,
+        done: wanted.done as u32,
+        stations: wanted.stations() as u32,
+    };
+    if ran == numbers {
+        return Ok(());
+    }
+    Err(format!(
+        "run: the archive gives {ran:?}, the model {numbers:?}"
+    ))
+}
+
+fn same_room(room: &Lent, written: &[u8]) -> Result<(), String> {
+    let (table, rest) = room.bytes().split_at(written.len());
+    if table != written {
+        let at = table.iter().zip(written).position(|(a, b)| a != b);
+        return Err(format!("run: the table written differs at byte {at:?}"));
+    }
+    if !all_pattern(rest) {
+        return Err("run: a byte of the room past the table was touched".to_string());
+    }
+    Ok(())
+}
+
+fn same_check(lent: &Lent, table: &[u8], tally: &mut Tally) -> Result<(), String> {
+    let (checked, number) = (archive::check(lent), model::check(table));
+    tally.check[number as usize] += 1;
+    if checked == number {
+        return Ok(());
+    }
+    Err(format!(
+        "check: the archive gives {checked}, the model {number}"
+    ))
+}
+
+fn same_line(lent: &Lent, table: &[u8], tally: &mut Tally) -> Result<(), String> {
+    let (line, wanted) = (archive::in_line(lent), told(model::in_line(table)));
+    tally.line.count(wanted);
+    if line == wanted {
+        return Ok(());
+    }
+    Err(format!(
+        "in line: the archive gives {line:?}, the model {wanted:?}"
+    ))
+}
+
+fn same_leave(
+    random: &mut Random,
+    lent: &Lent,
+    table: &[u8],
+    tally: &mut Tally,
+) -> Result<(), String> {
+    for station in asked(random, table) {
+        let leave = archive::may_leave(lent, station);
+        let wanted = told(model::may_leave(table, station));
+        tally.leave.count(wanted);
+        if leave != wanted {
+            return Err(format!(
+                "may {station} leave: the archive gives {leave:?}, the model {wanted:?}"
+            ));
+        }
+    }
+    Ok(())
+}
+
+/// Walks the view from the first block to the end and past it, and asks it at positions far away.
+fn same_view(
+    random: &mut Random,
+    lent: &Lent,
+    table: &[u8],
+    tally: &mut Tally,
+) -> Result<(), String> {
+    let view = model::view(table);
+    let blocks = table.len() / BLOCK;
+    let near = 0..blocks + 3;
+    let far = [
+        blocks + random.below(1 << 20),
+        1 << 55, // times 512 it is 0 in 64 bits
+        (1 << 55) + random.below(1 + blocks),
+        usize::MAX - random.below(2),
+        random.next() as usize,
+    ];
+    for position in near.chain(far) {
+        let wanted = viewed(&view, table, position);
+        tally.view.count(wanted);
+        let seen = archive::view(lent, position);
+        if seen != wanted {
+            return Err(format!(
+                "view at {position}: the archive gives {seen:?}, the model {wanted:?}"
+            ));
+        }
+    }
+    Ok(())
+}
+
+/// What the model's view comes to in the numbers of the C interface: where the block lies in the table, and the next position, which
+/// at the end is the same one again.
+fn viewed(view: &Result<Vec<&[u8]>, u32>, table: &[u8], position: usize) -> Viewed {
+    let block = view.as_ref().ok().and_then(|blocks| blocks.get(position));
+    Viewed {
+        answer: view.as_ref().err().copied().unwrap_or(0),
+        has_block: u32::from(block.is_some()),
+        offset: block.map_or(0, |block| block.as_ptr() as usize - table.as_ptr() as usize),
+        next: if block.is_some() {
+            position + 1
+        } else {
+            position
+        },
+    }
+}
+
+fn lent_whole(case: &Case, table: &Lent, list: &Lent, room: &Lent) -> Result<(), String> {
+    if table.bytes() != case.table || list.bytes() != case.steps {
+        return Err("the caller's table or step list was changed".to_string());
+    }
+    if !(table.guards_whole() && list.guards_whole() && room.guards_whole()) {
+        return Err("a byte outside the lent memory was changed".to_string());
+    }
+    Ok(())
+}
+
+/// Stations to ask about: some or all that are present, their nearest numbers, and numbers that no station can have.
+fn asked(random: &mut Random, table: &[u8]) -> Vec<u32> {
+    let present: Vec<u32> = table
+        .chunks_exact(BLOCK)
+        .map(|block| u32::from_le_bytes([block[4], block[5], block[6], block[7]]))
+        .collect();
+    let mut asked = Vec::new();
+    if present.is_empty() || random.percent(30) {
+        asked.push(*random.pick(&[0, 1, 999_999, 1_000_000, u32::MAX]));
+    }
+    if present.is_empty() {
+        return asked;
+    }
+    if random.percent(2) {
+        asked.extend(&present);
+    }
+    for _ in 0..2 {
+        asked.push(*random.pick(&present));
+    }
+    let near = *random.pick(&present);
+    let anywhere = random.next() as u32;
+    asked.push(*random.pick(&[
+        near.wrapping_add(1),
+        near.wrapping_sub(1),
+        near ^ 0x1_0000,
+        near ^ 0x0100_0000,
+        anywhere,
+    ]));
+    asked
+}
+
+/// The stations still present are joined as they were, and each that has gone has gone by an exit among the steps done.
+fn same_joins(
+    case: &Case,
+    ran: archive::Ran,
+    written: &[u8],
+    tally: &mut Tally,
+) -> Result<(), String> {
+    let before = joined::groups(&case.table);
+    let after = joined::groups(written);
+    joined::same_groups(&before, &after)?;
+    let exits = case
+        .steps
+        .chunks(STEP)
+        .take(ran.done as usize)
+        .filter(|step| step[0] == 3)
+        .count();
+    if before.len() - after.len() != exits {
+        return Err("stations have gone without an exit".to_string());
+    }
+    tally.joined += 1;
+    tally.joined_several += u64::from(joined::count(&before) > 1);
+    tally.joined_departed += u64::from(exits > 0);
+    tally.exits += exits as u64;
+    Ok(())
+}
+
+/// Receivers that hold the same table in different stored orders write the same bytes and give the same numbers, whether one of
+/// them is handed the list whole or in pieces, with its table stored anew in between.
+fn two_receivers(random: &mut Random, case: &Case, tally: &mut Tally) -> Result<(), String> {
+    let first = archive::receive(&case.table, &case.steps);
+    let mut shuffled = tables::shuffle_bytes(random, &case.table);
+    if archive::receive(&shuffled, &case.steps) != first {
+        return Err("two receivers: another stored order gives something else".to_string());
+    }
+    tally.receivers += 1;
+    if first.0.answer != 0 && first.0.answer < 10 {
+        return Ok(());
+    }
+    tally.receivers_steps += u64::from(first.0.done);
+    let mut rest = &case.steps[..];
+    let mut done = 0;
+    loop {
+        let piece = STEP * random.from_to(1, 1 + rest.len() / STEP / 2);
+        let (now, later) = rest.split_at(piece.min(rest.len()));
+        let (ran, written) = archive::receive(&shuffled, now);
+        done += ran.done;
+        rest = later;
+        if ran.answer != 0 || rest.is_empty() {
+            let whole = archive::Ran { done, ..ran };
+            if (whole, written) != first {
+                return Err("two receivers: a list in pieces gives something else".to_string());
+            }
+            return Ok(());
+        }
+        shuffled = tables::shuffle_bytes(random, &written);
+    }
+}
