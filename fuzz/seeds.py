@@ -1,12 +1,13 @@
 #!/usr/bin/env python3
 """Writes the seeds of fuzz/corpus: the printed example of document 01 and the shorter cases of crates/situations/data/cases.bin. Run it
-in the repository's root. An input is four numbers of 32 bits (length of the table, of the step list, of the room; the station asked
+in the repository's root; with one argument it writes them below that folder. An input is four numbers of 32 bits (length of the table, of the step list, of the room; the station asked
 about), the table and the step list."""
 import pathlib
 import struct
+import sys
 
 MOST = 3000
-corpus = pathlib.Path("fuzz/corpus")
+corpus = pathlib.Path(sys.argv[1] if len(sys.argv) > 1 else ".", "fuzz/corpus")
 
 
 def seed(name, table, steps, room):
@@ -14,7 +15,7 @@ def seed(name, table, steps, room):
     (corpus / name).write_bytes(struct.pack("<IIII", len(table), len(steps), room, station) + table + steps)
 
 
-corpus.mkdir(exist_ok=True)
+corpus.mkdir(parents=True, exist_ok=True)
 example = pathlib.Path("examples/table.bin").read_bytes()
 seed("example", example, pathlib.Path("examples/steps.bin").read_bytes(), len(example))
 data = pathlib.Path("crates/situations/data/cases.bin").read_bytes()

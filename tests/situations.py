@@ -5,7 +5,7 @@ Below is a reading of document 01 in plain Python, made from the document before
 (1 to 7), the run (8 to 15), the two questions and the printed listing. The thirteen situations, the printed example and
 most other cases also say by hand what must be printed, and the script stops if the reading gives another. Run it in the
 repository's root; it writes crates/situations/data/cases.bin, crates/situations/stdout and tests/questions.txt, which
-are kept in the repository.
+are kept in the repository (outputs.py: or writes them below another folder).
 
 A case in cases.bin is three numbers of 32 bits (length of the table, of the step list, of the room), the table and the
 step list. A line of questions.txt is a case, `leave` and a station or `line`, the number answered and yes (1) or no (0),
@@ -13,8 +13,10 @@ which is 0 at every number but 0; it is asked of the table of the case as it is 
 """
 import struct
 
+import tables
 from layout import DELIVER, EXIT, INTRODUCTION, REMOVE_LEFT, REMOVE_RIGHT, TIMEOUT
 from layout import block, changed, line64, resealed, step
+from outputs import put
 
 # ---- the reading of document 01 ----
 
@@ -613,34 +615,30 @@ case("a full bag in the middle of 64", line64, [timeout(32)] * 20 + [timeout(30)
 assert {answer for _, _, _, _, answer, _ in cases} == set(range(16))
 
 # The check of this reading also gives each table of the program `checks` the number that tables.py names for it.
-with open("crates/checks/data/cases.bin", "rb") as tables, open("crates/checks/stdout") as answers:
-    for said in answers:
-        length, = struct.unpack("<I", tables.read(4))
-        assert check(tables.read(length)) == int(said.split()[1]), said
+for title, table, number in tables.cases:
+    assert check(table) == number, title
 
 # ---- what is written ----
 
-with open("crates/situations/data/cases.bin", "wb") as out:
-    for _, table, steps, room, _, _ in cases:
-        out.write(struct.pack("<III", len(table), len(steps), room) + table + steps)
-with open("crates/situations/stdout", "w") as out:
-    for k, (_, _, _, _, _, lines) in enumerate(cases, 1):
-        out.write("\n".join(["case %d" % k] + lines + ["rest kept"]) + "\n")
+put("crates/situations/data/cases.bin",
+    b"".join(struct.pack("<III", len(table), len(steps), room) + table + steps for _, table, steps, room, _, _ in cases))
+put("crates/situations/stdout",
+    "".join("\n".join(["case %d" % k] + lines + ["rest kept"]) + "\n" for k, (_, _, _, _, _, lines) in enumerate(cases, 1)))
 
 yes = {"leave": 0, "line": 0}
-asked = []
-with open("tests/questions.txt", "w") as out:
-    for k, (_, table, _, _, _, _) in enumerate(cases, 1):
-        if table in asked:
-            continue
-        asked.append(table)
-        present = sorted(read_table(table)) if check(table) == 0 else [5]
-        for p in present + [q for q in (0, 6, 1000000, 4294967295) if q not in present]:
-            number, answer = may_leave(table, p)
-            out.write("%d leave %d %d %d\n" % (k, p, number, answer))
-            yes["leave"] += answer
-        number, answer = in_line(table)
-        out.write("%d line %d %d\n" % (k, number, answer))
-        yes["line"] += answer
+asked, questions = [], []
+for k, (_, table, _, _, _, _) in enumerate(cases, 1):
+    if table in asked:
+        continue
+    asked.append(table)
+    present = sorted(read_table(table)) if check(table) == 0 else [5]
+    for p in present + [q for q in (0, 6, 1000000, 4294967295) if q not in present]:
+        number, answer = may_leave(table, p)
+        questions.append("%d leave %d %d %d\n" % (k, p, number, answer))
+        yes["leave"] += answer
+    number, answer = in_line(table)
+    questions.append("%d line %d %d\n" % (k, number, answer))
+    yes["line"] += answer
+put("tests/questions.txt", "".join(questions))
 print("%d cases, %d exits in the long run, %d stations after it" % (len(cases), exits, len(line)))
 print("questions of %d tables, yes to leave %d, to line %d" % (len(asked), yes["leave"], yes["line"]))

@@ -3,11 +3,12 @@
 
 The blocks are laid out from document 01 ("The block") alone (layout.py), with no help from the crates, and each case
 names the number that document 01 gives it. Run it in the repository's root; it writes crates/checks/data/cases.bin
-and crates/checks/stdout, which are kept in the repository.
+and crates/checks/stdout, which are kept in the repository (outputs.py: or writes them below another folder).
 """
 import struct
 
 from layout import INTRODUCTION, REMOVE_LEFT, REMOVE_RIGHT, block, changed, line64, resealed
+from outputs import put
 
 good = block(3, right=5), block(5, left=3, right=9, bag=[(INTRODUCTION, 7)]), block(7), block(9, left=5)
 full = block(5, bag=[(INTRODUCTION, 5)] * 32)
@@ -86,10 +87,7 @@ cases = [
     ("3 and 4 in one block", changed(block(5, layout=2), 500, 1), 3),
 ]
 
-with open("crates/checks/data/cases.bin", "wb") as out:
-    for name, table, number in cases:
-        out.write(struct.pack("<I", len(table)) + table)
-with open("crates/checks/stdout", "w") as out:
-    for k, (name, table, number) in enumerate(cases, 1):
-        out.write("%d %d\n" % (k, number))
-print(len(cases), "cases")
+if __name__ == "__main__":
+    put("crates/checks/data/cases.bin", b"".join(struct.pack("<I", len(table)) + table for _, table, _ in cases))
+    put("crates/checks/stdout", "".join("%d %d\n" % (k, number) for k, (_, _, number) in enumerate(cases, 1)))
+    print(len(cases), "cases")
