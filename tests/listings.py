@@ -3,12 +3,11 @@
 
 The tables and steps are laid out from document 01 alone (layout.py), and each listing is written here by the words of document 01
 ("The printed listing", "The numbers a crew may see"), not taken from what a program printed. Run it in the repository's root; what
-it writes is kept in the repository: examples/, data/ and stdout of `listing`, and data/, args and stdout of `listing_cases`.
+it writes is kept in the repository: examples/, data/ and stdout of `listing`, and data/, args and stdout of `listing_cases`
+(outputs.py: or writes them below another folder).
 """
-import os
-import shutil
-
 from layout import DELIVER, EXIT, INTRODUCTION, REMOVE_LEFT, TIMEOUT, block, changed, line64, step
+from outputs import put
 
 # ---- the example of document 01 ----
 
@@ -150,40 +149,27 @@ CASES = [
 ]
 
 
-def put(folder, name, content):
-    with open(os.path.join(folder, name), "wb") as f:
-        f.write(content)
-
-
-def fresh(folder):
-    shutil.rmtree(folder, ignore_errors=True)
-    os.makedirs(folder)
-    return folder
-
-
 def write_example():
-    os.makedirs("examples", exist_ok=True)
-    for folder in "examples", fresh("crates/listing/data"):
-        put(folder, "table.bin", TABLE)
-        put(folder, "steps.bin", STEP)
-    put("crates/listing", "stdout", (first_line(0, 1, 4) + AFTER).encode())
+    for folder in "examples", "crates/listing/data":
+        put(folder + "/table.bin", TABLE)
+        put(folder + "/steps.bin", STEP)
+    put("crates/listing/stdout", first_line(0, 1, 4) + AFTER)
 
 
 def write_cases():
     home = "crates/listing_cases"
-    data = fresh(os.path.join(home, "data"))
     for kind, files in ("table", TABLES), ("steps", STEPS):
         for name, content in files.items():
-            put(data, name + "." + kind, content)
+            put("%s/data/%s.%s" % (home, name, kind), content)
         # an empty folder is not kept in the repository
-        put(fresh(os.path.join(data, FOLDER + "." + kind)), "readme", b"A directory stands where a file should be.\n")
+        put("%s/data/%s.%s/readme" % (home, FOLDER, kind), "A directory stands where a file should be.\n")
     args, stdout = "", ""
     for table, steps, listing in CASES:
         assert table in (*TABLES, MISSING, FOLDER) and steps in (*STEPS, MISSING, FOLDER)
         args += "%s.table\n%s.steps\n" % (table, steps)
         stdout += "case %s.table %s.steps\n%s" % (table, steps, listing)
-    put(home, "args", args.encode())
-    put(home, "stdout", stdout.encode())
+    put(home + "/args", args)
+    put(home + "/stdout", stdout)
 
 
 assert (len(TABLES["full"]), len(STEPS["full"])) == (32768, 49152)
