@@ -14,5 +14,6 @@ refused = changed(accepted, 3 * 512 + 4, 6)  # 3: the station number of the last
 
 put("crates/view_walk/data/accepted.bin", accepted)
 put("crates/view_walk/data/refused.bin", refused)
+put("crates/view_walk/data/empty.bin", b"")
 put("crates/view_walk/stdout",
-    "number 0\n" + "".join("%d\n" % n for n in stored) + 3 * "end\n" + "number 3\n" + 3 * "end\n")
+    "number 0\n" + "".join("%d\n" % n for n in stored) + 3 * "end\n" + "number 3\n" + 5 * "end\n" + "number 0\n" + 2 * "end\n")

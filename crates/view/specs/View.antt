@@ -6,7 +6,10 @@ use lib.Dec.{eqb, ltb}
 use lib.ListN.{length}
 use Rattle.table.specs.Blocks.{blockAt}
 use Rattle.table.specs.Fault.{faultOf}
+use mathlib.Core.Path.{_≡_}
+use denote.Ref.{RefT, now}
 use Rattle.view.specs.declared.Looked.{Looked}
+use Rattle.view.specs.declared.View.{View}
 
 -- what an answer leaves of a table for a view: all of it at 0, else nothing
 abbrev pub shownAt : ℕ → List ℕ → List ℕ
@@ -36,12 +39,20 @@ addressPast place n = (place .0, n + place .1)
 unfoldable pub nextPosition : List ℕ → ℕ → ℕ
 nextPosition t p = cond (hasBlock t p) (p + 1) p
 
+-- a view as it is opened of a caller's bytes: the check's number, what it shows of them and where these lie, and the first position
+abbrev pub Opens : RefT (List ℕ) → View → Type 0
+Opens s v = (v .answer ≡ faultOf (now s)) × (now (v .table) ≡ shown (now s)) × (v .table .ptr ≡ s .ptr) × (v .position ≡ 0)
+
+-- a view moved on by one block: the number and what it shows stay
+abbrev pub moved : View → View
+moved v = record { answer = v .answer; table = v .table; position = nextPosition (now (v .table)) (v .position) }
+
 -- all of it in numbers, of any bytes: the check's number, whether there is a block, where it lies in the table, the next position
 unfoldable pub viewed : List ℕ → ℕ → Looked
 viewed t p =
     record { answer = faultOf t; found = hasBlock (shown t) p; offset = blockOffset (shown t) p; next = nextPosition (shown t) p }
 
 -- what a view gives that is asked n times, and moved on after each time
-unfoldable pub walked : List ℕ → ℕ → ℕ → List (List ℕ)
-walked t p zero = []
-walked t p (suc n) = blockOrEnd t p ∷ walked t (nextPosition t p) n
+unfoldable pub walked : View → ℕ → List (List ℕ)
+walked v zero = []
+walked v (suc n) = blockOrEnd (now (v .table)) (v .position) ∷ walked (moved v) n

@@ -1,10 +1,8 @@
 // The view (document 01, "The block"): "A console view holds the caller's table and walks it block by block without a copy". A position
-// counts blocks. The functions that do the work come first; those of the struct only take it apart and call them, and `view_block`
-// stands above these for callers with plain parameters.
+// counts blocks. The functions that do the work come first; those of the struct only take it apart and call them.
 use table::check;
 ghost use mathlib.Core.Path.{_≡_};
-ghost use Rattle.table.specs.Fault.{faultOf};
-ghost use Rattle.view.specs.View.{shownAt, shown, blockOrEnd, blockOffset, addressPast, nextPosition, viewed};
+ghost use Rattle.view.specs.View.{shownAt, blockOrEnd, blockOffset, addressPast, nextPosition, viewed, Opens, moved};
 
 // What is to be seen at a position, in numbers: the check's number, whether there is a block, where it lies in the table, and the next
 // position.
@@ -70,27 +68,25 @@ pub fn look(table: &[u8], position: usize) -> Looked
     }
 }
 
-// The view: the bytes that it shows of the caller's table, and a position in them.
+// The view: the check's number, the bytes that it shows of the caller's table, which are none beside any number but 0, and a position in
+// them. What it shows and where it stands are not public, so that no other crate can make a view or change one: each is what `open_view`
+// has made of some table, moved on by `advance`.
 pub struct View<'a> {
-    pub table: &'a [u8],
-    pub position: usize,
-}
-
-// What opening a view gives: the check's number, and the bytes that the view shows, which are none beside any number but 0.
-pub struct Opened<'a> {
     pub answer: u32,
-    pub table: &'a [u8],
+    table: &'a [u8],
+    position: usize,
 }
 
-// Checks the caller's table, once for the whole walk; the view of what is opened starts at position 0.
-pub fn open_view<'a>(table: &'a [u8]) -> Opened<'a>
-    ensures { λ r. ⌜ (r .answer ≡ faultOf (now (table .entry))) × (now (r .table) ≡ shown (now (table .entry))) × (r .table .ptr ≡ table .entry .ptr) ⌝ }
+// Checks the caller's table, once for the whole walk; the view stands at its first block.
+pub fn open_view<'a>(table: &'a [u8]) -> View<'a>
+    ensures { λ r. ⌜ Opens (table .entry) r ⌝ }
 {
     let answer = check(table);
     let shown = show(table, answer);
-    Opened {
+    View {
         answer,
         table: shown,
+        position: 0,
     }
 }
 
@@ -103,22 +99,12 @@ pub fn current<'a>(view: View<'a>) -> &'a [u8]
 
 // The view moved on by one block; at the end it stays there.
 pub fn advance<'a>(view: View<'a>) -> View<'a>
-    ensures { λ r. ⌜ (r .table ≡ view .entry .table) × (r .position ≡ nextPosition (now (view .entry .table)) (view .entry .position)) ⌝ }
+    ensures { λ r. ⌜ r ≡ moved (view .entry) ⌝ }
 {
     let position = next_position(view.table, view.position);
     View {
+        answer: view.answer,
         table: view.table,
         position,
     }
-}
-
-// The block that a view of the table gives at a position: plain parameters, so that a caller of it needs no walk by hand.
-pub fn view_block(table: &[u8], position: usize) -> &[u8]
-    ensures { λ r. ⌜ (now r ≡ blockOrEnd (shown (now (table .entry))) position) × (r .ptr ≡ addressPast (table .entry .ptr) (blockOffset (shown (now (table .entry))) position)) ⌝ }
-{
-    let opened = open_view(table);
-    current(View {
-        table: opened.table,
-        position,
-    })
 }

@@ -1,8 +1,9 @@
-// The view over two stored tables, one accepted, with its blocks out of order, and one that isn't (document 01, "The block"): prints the
-// check's number, the station numbers of the blocks in stored order, and the end as often as it is asked.
+// The view over stored tables, one accepted, with its blocks out of order, one that isn't, and the empty one (document 01, "The block"):
+// prints the check's number, the station numbers of the blocks in stored order, and the end as often as it is asked.
 use libc::STDOUT_FILENO;
-use view::look;
-use view::view_block;
+use view::advance;
+use view::current;
+use view::open_view;
 
 // A number on a line of its own.
 fn print_number(number: u32) {
@@ -19,15 +20,20 @@ fn print_block(block: &[u8]) {
     print_number(octets::quad_at(block, 4));
 }
 
-// Asks the view of a table so many times, and moves on each time.
-fn walk(table: &[u8], times: u32) {
+// The check's number, which the view has beside what it shows.
+fn print_answer(answer: u32) {
     io::write_all(STDOUT_FILENO, b"number ");
-    print_number(look(table, 0).answer);
-    let mut position = 0;
+    print_number(answer);
+}
+
+// Opens a view of a table, asks it so many times, and moves it on each time.
+fn walk(table: &[u8], times: u32) {
+    let mut view = open_view(table);
+    print_answer(view.answer);
     let mut asked = 0;
     while asked < times {
-        print_block(view_block(table, position));
-        position = look(table, position).next;
+        print_block(current(view));
+        view = advance(view);
         asked += 1;
     }
 }
@@ -45,5 +51,6 @@ fn walk_file(path: &[u8], times: u32) {
 
 fn main() {
     walk_file(b"accepted.bin", 7);
-    walk_file(b"refused.bin", 3);
+    walk_file(b"refused.bin", 5);
+    walk_file(b"empty.bin", 2);
 }
