@@ -33,8 +33,8 @@ void expect_run(struct bytes table, struct bytes steps, size_t room_len, struct 
         expect(ran.done == wanted.done, "the steps done");
         expect(ran.stations == wanted.stations, "the stations now");
         const uint8_t *begin = rooms.own + area_start(&rooms, room_len, place);
-        expect(memcmp(begin, written.at, written.len) == 0, "the table written");
-        expect(rest_untouched(&rooms, room_len, place, written.len), "no other byte of the room is touched, nor one beside it");
+        int as_wanted = rest_untouched(&rooms, room_len, place, written.len) && memcmp(begin, written.at, written.len) == 0;
+        expect(as_wanted, "every byte of the room, and of what lies beside it");
     }
 }
 
