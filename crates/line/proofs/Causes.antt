@@ -1,11 +1,10 @@
 -- A step is refused with a number exactly when there is that number's cause.
 use mathlib.Core.Path.{_≡_, refl, sym, _∙_, ap, subst}
-use mathlib.Core.Logic.{_↔_, ⊎-elim}
-use mathlib.Core.Bool.{Bool, true, false}
+use mathlib.Core.Logic.{⊎-elim}
+use mathlib.Core.Bool.{true, false}
 use mathlib.Core.List.{List·Memᴰ as Member}
 use Prim.Native.Nat.{ℕ}
 use native.Mathlib.Omega.{arith}
-use lib.Dec.{ltb}
 use lib.ListN.{length}
 use borrow.Author.Tests.{ltb-false, ltb-true}
 use Rattle.line.specs.declared.Message.{Message}
@@ -16,7 +15,7 @@ use Rattle.line.specs.declared.Refusal.{Refusal}
 use Rattle.line.specs.declared.Refusal.the-variants.{Malformed, Absent, NotInBag, Staying, Held, Full}
 use Rattle.lists.specs.Lists.{all}
 use Rattle.lists.proofs.Lists.{clash, fails, all-true, all-false}
-use Rattle.line.specs.Answer.{Answer, refused, done, _>>=_}
+use Rattle.line.specs.Answer.{refused, done, _>>=_}
 use Rattle.line.specs.Message.{holds, capacity}
 use Rattle.line.specs.Node.{Node, Line, number, leaving, Present}
 use Rattle.line.specs.Nidec.{Nidec, nidec}

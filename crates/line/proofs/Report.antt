@@ -8,14 +8,12 @@ use mathlib.Core.List.{List·Memᴰ as Member}
 use Prim.Native.Nat.{ℕ, _≤_}
 use native.Mathlib.Omega.{arith}
 use native.Mathlib.Decide.{ℕ-discrete}
-use lib.Dec.{eqb}
 use lib.ListN.{length}
 use Rattle.line.specs.declared.Neighbour.{Neighbour}
 use Rattle.line.specs.declared.Neighbour.the-variants.{None, Station}
 use Rattle.line.specs.declared.Content.{Content}
 use Rattle.line.specs.declared.Content.the-variants.{Introduction, RemoveLeft, RemoveRight}
 use Rattle.line.specs.declared.Message.{Message}
-use Rattle.line.specs.declared.Refusal.{Refusal}
 use Rattle.line.specs.declared.Refusal.the-variants.{NotInBag, Staying, Held, Full}
 use Rattle.line.specs.declared.Step as steps
 use Rattle.line.specs.declared.Side.{Side}
@@ -23,7 +21,7 @@ use Rattle.line.specs.declared.Side.the-variants.{Left, Right}
 use Rattle.line.specs.declared.Action.{Action}
 use Rattle.line.specs.declared.Action.the-variants.{Timeout, Deliver, Exit}
 use Rattle.lists.specs.Lists.{all}
-use Rattle.line.specs.Answer.{Answer, refused, done, _>>=_, require}
+use Rattle.line.specs.Answer.{refused, done, _>>=_, require}
 use Rattle.line.specs.Message.{introduction, removal, holds, remove, put}
 use Rattle.line.specs.Node.{Node, Line, number, leaving}
 use Rattle.line.specs.Nidec.{nidec}

@@ -1,4 +1,4 @@
--- Searching and counting in the first n elements of an array from the front, and what the first place that passes is good for.
+-- Searching in the first n elements of an array from the front, and what the first place that passes is good for.
 use mathlib.Core.Path.{_≡_, refl, sym, ap, _∙_}
 use mathlib.Core.Bool.{Bool, true, false, cond, _||_}
 use mathlib.Core.List.{List, [], _∷_}
@@ -9,7 +9,7 @@ use lib.Dec.{ltb, leb·suc-suc}
 use borrow.Author.Tests.{lt-ltb}
 use lib.ListN.{length, getD, take, drop, length-take, drop-of-length-le}
 use lib.Seq.{length-take-le, getD-take, drop-cons}
-use Rattle.lists.specs.Lists.{any, count, removeFirst}
+use Rattle.lists.specs.Lists.{any, removeFirst}
 use Rattle.lists.specs.Places.{removeAt, firstAt}
 
 module _ {A : Type 0} where
@@ -29,10 +29,6 @@ module _ {A : Type 0} where
 abbrev pub Sought : {A : Type 0} → (A → Bool) → ℕ → List A → ℕ → Type 0
 Sought f n a i = firstAt f (take n a) ≡ i + firstAt f (drop i (take n a))
 
--- s of those that pass stand before i
-abbrev pub Counted : {A : Type 0} → (A → Bool) → ℕ → List A → ℕ → ℕ → Type 0
-Counted f n a s i = count f (take n a) ≡ s + count f (drop i (take n a))
-
 -- a turn of the loop, at an element that passes and at one that does not
 module _ {A : Type 0} (f : A → Bool) (n : ℕ) (a : List A) (i : ℕ) (d : A) where
   pub sought-here : Sought f n a i → f (getD a i d) ≡ true → i < n → n ≤ length a → i ≡ firstAt f (take n a)
@@ -43,19 +39,11 @@ module _ {A : Type 0} (f : A → Bool) (n : ℕ) (a : List A) (i : ℕ) (d : A) 
   unfolding firstAt
   sought-next s e h k = s ∙ rw (rest-cons n a i d h k, e) (omega arith)
 
-  pub counted-next : (b : Bool) (s t : ℕ) → Counted f n a s i → f (getD a i d) ≡ b → t ≡ s + cond b 1 0 → i < n → n ≤ length a → Counted f n a t (i + 1)
-  unfolding count
-  counted-next b s t q e p h k = q ∙ rw (rest-cons n a i d h k, e) (omega arith)
-
 -- after the last turn
 module _ {A : Type 0} (f : A → Bool) (n : ℕ) (a : List A) (i : ℕ) where
   pub sought-none : Sought f n a i → n ≤ i → i ≡ firstAt f (take n a)
   unfolding firstAt
   sought-none s h = rw (s, rest-none n a i h) (omega arith)
-
-  pub counted-all : (s : ℕ) → Counted f n a s i → n ≤ i → s ≡ count f (take n a)
-  unfolding count
-  counted-all s t h = rw (t, rest-none n a i h) (omega arith)
 
 module _ {A : Type 0} (f : A → Bool) where
   -- one passes exactly when there is a first

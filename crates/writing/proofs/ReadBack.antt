@@ -14,7 +14,7 @@ use Rattle.line.specs.declared.Content.{Content}
 use Rattle.line.specs.declared.Content.the-variants.{Introduction, RemoveLeft, RemoveRight}
 use Rattle.line.specs.declared.Message.{Message}
 use Rattle.line.specs.Message.{kind, carried, introduction}
-use Rattle.line.specs.Node.{Node, neighbour}
+use Rattle.line.specs.Node.{Node}
 use Rattle.line.specs.Accepted.{inRange}
 use Rattle.line.specs.Marks.{flags, reserved, marksFrom}
 use Rattle.line.proofs.MarkWords.{flags-low, reserved-same, flags-hold, reserved-hold, marks-back}
