@@ -10,6 +10,7 @@ again=$'Try \'station-line --help\'.\n'
 try 'no such command' 2 '' $'station-line: fly: no such command\n'"$again" fly table.bin
 try 'an empty command' 2 '' $'station-line: : no such command\n'"$again" ''
 try 'an unknown option' 2 '' $'station-line: --verbose: no such command\n'"$again" --verbose
+group 'wrong use of each command'
 for use in 'check TABLE' 'run TABLE STEPS [-o NEW]' 'leave TABLE NUMBER' 'line TABLE' 'view TABLE' 'draw TABLE' \
     'assemble table|steps TEXT [-o OUT]' 'dump table|steps FILE'; do
     command=${use%% *}
@@ -24,10 +25,12 @@ for use in 'check TABLE' 'run TABLE STEPS [-o NEW]' 'leave TABLE NUMBER' 'line T
     *) try "$command: takes no -o" 2 '' "$usage" "$command" table.bin -o new.bin ;;
     esac
 done
+end
 try 'assemble: neither table nor steps' 2 '' $'station-line: list: \'table\' or \'steps\' is expected\n'"$again" assemble list steps.txt
 try 'dump: neither table nor steps' 2 '' $'station-line: list: \'table\' or \'steps\' is expected\n'"$again" dump list steps.bin
 try 'run: both from standard input' 2 '' $'station-line: -: standard input can\'t be both the table and the step list\n'"$again" run - -
 try 'run: -o -' 2 '' $'station-line: -o -: standard output takes the listing; name a file\n'"$again" run table.bin steps.bin -o -
+group 'leave: what is no number'
 for number in five 5x x5 -- -5 +5 ' 5' '5 ' 5.0 0x5 '' ५; do
     case $number in
     --) try 'leave: no number after --' 2 '' $'usage: station-line leave TABLE NUMBER\n' leave table.bin -- ;;
@@ -36,6 +39,7 @@ for number in five 5x x5 -- -5 +5 ' 5' '5 ' 5.0 0x5 '' ५; do
     *) try "leave: '$number' for a number" 2 '' "station-line: $number: a station number is expected"$'\n'"$again" leave table.bin "$number" ;;
     esac
 done
+end
 cp table.bin ./-o
 try 'a file whose name begins with a hyphen' 0 $'0\n' '' check -- -o
 
@@ -49,12 +53,14 @@ head -c 49153 4097.bin > long1.steps
 door16() {
     local out=$1 pair file why
     shift
+    group "16: $*"
     for pair in 'missing:No such file or directory' 'folder:Is a directory' 'table.bin/x:Not a directory' ':No such file or directory' \
         "${toolong[@]}"; do
         file=${pair%%:*} why=${pair#*:}
         say 16 "$file: $why"
-        try "$*: $file" 2 "$out" "$said" "${@/#FILE/$file}"
+        try "'$file'" 2 "$out" "$said" "${@/#FILE/$file}"
     done
+    end
 }
 toolong=('long.bin:over 32768 bytes' 'long1.bin:over 32768 bytes' '/dev/zero:over 32768 bytes')
 door16 $'16\n' check FILE
@@ -88,6 +94,7 @@ patch 5.bin 8 05 00 00 00
 cat table.bin one.bin > 6.bin
 head -c 512 table.bin > 7.bin
 for k in 1 3 4 5 6 7; do
+    group "$k at each door"
     say "$k"
     try "$k: check" 1 "$k"$'\n' "$said" check $k.bin
     try "$k: run" 1 "answer $k done 0 stations 0"$'\n' "$said" run $k.bin steps.bin -o never.bin
@@ -96,18 +103,23 @@ for k in 1 3 4 5 6 7; do
     try "$k: view" 1 '' "$said" view $k.bin
     try "$k: draw" 1 '' "$said" draw $k.bin
     try "$k: dump" 1 '' "$said" dump table $k.bin
+    end
 done
+group '1: a table cut short'
 for n in 1 511 513 1025; do
     head -c $n table.bin > cut.bin
     say 1
     try "a table cut to $n bytes" 1 $'1\n' "$said" check cut.bin
 done
+end
+group '8: a list cut short'
 for n in 1 11 13 49151; do
     head -c $n 4096.bin > cut.steps
     say 8
     try "8: a list cut to $n bytes" 1 $'answer 8 done 0 stations 0\n' "$said" run table.bin cut.steps -o never.bin
     try "8: dump of a list cut to $n bytes" 1 '' "$said" dump steps cut.steps
 done
+end
 say 7
 try '7 before 8' 1 $'answer 7 done 0 stations 0\n' "$said" run 7.bin cut.steps
 holds '1 to 8 write no table' [ ! -e never.bin ]
@@ -122,11 +134,13 @@ done
 # Standard output that takes nothing.
 # stuck WORD..: the program with a full standard output must end with 2 and say so
 stuck() {
-    "$program" "$@" > /dev/full 2> .got.err < /dev/null
-    [ $? -eq 2 ] && grep -q '^station-line: standard output: .*No space left on device$' .got.err
+    "$program" "$@" > /dev/full 2> "$got.err" < /dev/null
+    [ $? -eq 2 ] && grep -q '^station-line: standard output: .*No space left on device$' "$got.err"
 }
+group 'a full standard output'
 for sentence in --help --version 'check table.bin' 'run table.bin steps.bin' 'leave table.bin 5' 'line table.bin' 'view table.bin' \
     'draw table.bin' 'dump table table.bin' 'dump steps steps.bin' 'assemble table stations.txt' 'assemble steps steps.txt' \
     'dump steps 4096.bin' 'run 64.bin steps.bin'; do
-    holds "a full standard output: $sentence" stuck $sentence
+    holds "$sentence" stuck $sentence
 done
+end

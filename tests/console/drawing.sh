@@ -35,7 +35,9 @@ try 'draw one station' 0 "$top    5 [label=\"5\\nleaving\", style=filled, fillco
 " '' draw one.bin
 try 'draw nothing' 0 "$top}"$'\n' '' draw empty
 if command -v dot > /dev/null; then
+    group 'Graphviz takes the drawing'
     for file in table.bin leaving.bin one.bin empty 64.bin; do
-        holds "Graphviz takes the drawing of $file" dot -Tsvg -o drawn.svg <("$program" draw $file)
+        holds "$file" dot -Tsvg -o drawn.svg <("$program" draw $file)
     done
+    end
 fi

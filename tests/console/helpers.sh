@@ -1,44 +1,75 @@
-# Helpers for the parts of the console's test; $program is the program under test and the current folder is empty at the start.
-passed=0
-failed=0
+# Helpers for the parts of the console's test; $program is the program under test, and the current folder is empty at the start.
+#
+# A case is what `try` or `holds` expects, or all that is expected between `group NAME` and `end`; it has a name and counts once.
+group=
+group_failed=0
 
-# pass NAME, fail NAME: one test counted
-pass() {
-    passed=$((passed + 1))
+# group NAME, end: what is expected between the two is one case
+group() {
+    group=$1
+    group_failed=0
 }
-fail() {
-    failed=$((failed + 1))
-    echo "failed (${program##*/}): $1"
+end() {
+    if [ "$group_failed" -eq 0 ]; then record passed "$group"; else record failed "$group"; fi
+    group=
+}
+record() {
+    printf '%s %s\n' "$1" "$2" >> "$results"
+}
+
+# met NAME, unmet NAME: an expectation that was met or not
+met() {
+    [ -n "$group" ] || record passed "$1"
+}
+unmet() {
+    echo "failed (${program##*/}): ${group:+$group: }$1"
+    if [ -n "$group" ]; then group_failed=1; else record failed "$1"; fi
 }
 
 # holds NAME COMMAND..: the command must succeed
 holds() {
-    if "${@:2}"; then pass "$1"; else fail "$1"; fi
+    if "${@:2}"; then met "$1"; else unmet "$1"; fi
 }
 
-# try NAME STATUS OUT ERR WORD..: the program with these words must end with STATUS and print exactly OUT and ERR. Its standard input is
-# the file $input, or empty. A program that hangs is ended after a minute.
-try() {
-    local name=$1 wanted=$2 status
-    printf '%s' "$3" > .want.out
-    printf '%s' "$4" > .want.err
-    timeout 60 "$program" "${@:5}" > .got.out 2> .got.err < "${input:-/dev/null}"
+# ends WANTED WORD..: runs the program with these words; its status must be WANTED, what it prints stands in $out and $err. Its standard
+# input is the file $input, or empty. A byte 0 in what it prints is no text and fails.
+ends() {
+    local status text=0
+    "$program" "${@:2}" > "$got.out" 2> "$got.err" < "${input:-/dev/null}"
     status=$?
-    if [ "$status" -eq "$wanted" ] && cmp -s .want.out .got.out && cmp -s .want.err .got.err; then
-        pass "$name"
-    else
-        fail "$name: status $status, wanted $wanted"
-        diff .want.out .got.out | cat -v
-        diff .want.err .got.err | cat -v
+    IFS= read -r -d '' out < "$got.out" && text=1
+    IFS= read -r -d '' err < "$got.err" && text=1
+    if [ "$status" -ne "$1" ]; then
+        echo "status $status, wanted $1"
+        return 1
     fi
+    return $text
+}
+
+# says WANTED OUT ERR WORD..: the same, and it must print exactly OUT and ERR
+says() {
+    ends "$1" "${@:4}" && [ "$out" = "$2" ] && [ "$err" = "$3" ] && return
+    diff <(printf '%s' "$2") "$got.out" | cat -v
+    diff <(printf '%s' "$3") "$got.err" | cat -v
+    return 1
+}
+
+# try NAME STATUS OUT ERR WORD..: the program with these words must end so and print that
+try() {
+    holds "$1" says "${@:2}"
+}
+
+# same FILE FILE: both have the same bytes
+same() {
+    cmp "$1" "$2"
 }
 
 # table FILE LINE.., steps FILE LINE..: a table or step list assembled from lines, as part of a test
 table() {
-    printf '%s\n' "${@:2}" | "$program" assemble table - -o "$1" || fail "assemble table $1"
+    printf '%s\n' "${@:2}" | "$program" assemble table - -o "$1" || unmet "assemble table $1"
 }
 steps() {
-    printf '%s\n' "${@:2}" | "$program" assemble steps - -o "$1" || fail "assemble steps $1"
+    printf '%s\n' "${@:2}" | "$program" assemble steps - -o "$1" || unmet "assemble steps $1"
 }
 
 # bytes FILE HEX..: a file of these bytes

@@ -1,12 +1,16 @@
 # The two questions, the view and the check.
 table asked.bin '3 - 5 stay' '5 3 9 stay i7' '7 - - stay' '9 5 - stay'
+group 'no station of the example may leave'
 for station in 3 5 7 9; do
-    try "may $station leave?" 0 $'no\n' '' leave asked.bin "$station"
+    try "station $station" 0 $'no\n' '' leave asked.bin "$station"
 done
+end
 say 11
+group '11: any number without a block is absent'
 for station in 0 6 999999 1000000 4294967295 4294967296 4294967301 99999999999999999999999999; do
-    try "11: station $station" 1 '' "$said" leave asked.bin "$station"
+    try "station $station" 1 '' "$said" leave asked.bin "$station"
 done
+end
 try 'not in line' 0 $'no\n' '' line asked.bin
 table straight.bin '9 5 - stay' '3 - 5 leave' '5 3 9 stay l'
 try 'in line, in another order' 0 $'yes\n' '' line straight.bin

@@ -5,7 +5,6 @@ files=$(ls -A)
 
 # keeps NAME OLD: the folder holds what it held, and the old file its bytes
 keeps() {
-    rm -f .want.out .want.err .got.out .got.err
     holds "$1: nothing is left beside it" [ "$(ls -A)" = "$files" ]
     holds "$1: the old file stands" cmp -s "$2" ../table.bin
 }
@@ -34,15 +33,16 @@ keeps 'each of these' table.bin
 
 # A disk that fills up half way, by a limit of 1,024 bytes for a file.
 limited() {
-    (ulimit -f 1 && exec "$program" "$@") > .got.out 2> .got.err < /dev/null
+    (ulimit -f 1 && exec "$program" "$@") > "$got.out" 2> "$got.err" < /dev/null
 }
 for sentence in 'run table.bin steps.bin -o table.bin' 'assemble table stations.txt -o table.bin' 'run table.bin steps.bin -o fresh.bin'; do
+    group "a disk that fills up half way: $sentence"
     limited $sentence
-    holds "half way: status of $sentence" [ $? -eq 2 ]
-    echo "station-line: ${sentence##* }: not written: File too large" > .want.err
-    holds "half way: words of $sentence" cmp .got.err .want.err
-    holds "half way: no listing of $sentence" [ ! -s .got.out ]
-    keeps "half way: $sentence" table.bin
+    holds 'status' [ $? -eq 2 ]
+    holds 'words' [ "$(< "$got.err")" = "station-line: ${sentence##* }: not written: File too large" ]
+    holds 'no listing' [ ! -s "$got.out" ]
+    keeps 'half way' table.bin
+    end
 done
 if [ "$(id -u)" -ne 0 ]; then
     mkdir locked && cp table.bin locked/old.bin && chmod 555 locked
@@ -60,7 +60,7 @@ fi
 # Success: the file is whole, keeps its mode, and nothing is left beside it.
 cp table.bin over.bin
 chmod 640 over.bin
-files=$(ls -A | grep -v '^\.[wg]')
+files=$(ls -A )
 try 'over its own table' 0 "$listing" '' run over.bin steps.bin -o over.bin
 holds 'the new bytes' cmp over.bin new.bin
 holds 'the old mode' [ "$(stat -c %a over.bin)" = 640 ]
@@ -76,9 +76,9 @@ holds 'the link is still one' [ -L link ]
 holds 'the file behind it is new' cmp deep/real.bin new.bin
 why dangling 'No such file or directory'
 try 'a link to nothing' 2 '' "$said" run table.bin steps.bin -o dangling
-holds 'it is still one' [ -L dangling ]
+holds 'the link to nothing is still one' [ -L dangling ]
 try 'a device' 0 "$listing" '' run table.bin steps.bin -o /dev/null
-holds 'it is still one' [ -c /dev/null ]
+holds 'the device is still one' [ -c /dev/null ]
 mkfifo pipe
 timeout 20 cat pipe > piped.bin &
 try 'a pipe' 0 "$listing" '' run table.bin steps.bin -o pipe

@@ -4,8 +4,10 @@
 wrong() {
     printf '%b' "$3" > wrong.txt
     echo old > wrong.bin
-    try "$2" 1 '' "wrong.txt: $4: $5"$'\n' assemble "$1" wrong.txt -o wrong.bin
-    holds "$2: the old file stands" grep -qx old wrong.bin
+    group "assemble $1: $2"
+    try 'what is said' 1 '' "wrong.txt: $4: $5"$'\n' assemble "$1" wrong.txt -o wrong.bin
+    holds 'the old file stands' grep -qx old wrong.bin
+    end
 }
 number='a station number is expected, 1 to 999,999'
 neighbour="a neighbour is expected, 1 to 999,999 or '-' for none"
@@ -78,7 +80,7 @@ holds '49,152 bytes' [ "$(stat -c %s 4096.bin)" -eq 49152 ]
 try '4,096 steps back' 0 "$(cat 4096.txt)"$'\n' '' dump steps 4096.bin
 printf '999999 - - stay%s\n' "$(printf ' i999999%.0s' {1..32})" > full.txt
 try 'a full bag of the largest number' 0 '' '' assemble table full.txt -o full.bin
-try 'and back' 0 "$(cat full.txt)"$'\n' '' dump table full.bin
+try 'a full bag and back' 0 "$(cat full.txt)"$'\n' '' dump table full.bin
 printf '# a table\n\n \t \n  # by hand\n\t3   -\t5 stay  \r\n5 3 -  leave l\ti3' > loose.txt
 try 'comments, blanks, CR and no last LF' 0 '' '' assemble table loose.txt -o loose.bin
 try 'in the plain form' 0 $'3 - 5 stay\n5 3 - leave l i3\n' '' dump table loose.bin
@@ -87,7 +89,7 @@ try 'every kind of step' 0 '' '' assemble steps all.txt -o all.bin
 bytes all.want 01 00 00 00 05 00 00 00 00 00 00 00  02 00 01 00 05 00 00 00 07 00 00 00  02 00 02 00 05 00 00 00 00 00 00 00 \
     02 00 03 00 3f 42 0f 00 00 00 00 00  03 00 00 00 01 00 00 00 00 00 00 00
 holds 'byte for byte' cmp all.bin all.want
-try 'and back' 0 "$(cat all.txt)"$'\n' '' dump steps all.bin
+try 'every kind of step and back' 0 "$(cat all.txt)"$'\n' '' dump steps all.bin
 
 # Through pipes.
 printf '5 - - leave\n' > one.txt
@@ -99,6 +101,7 @@ holds 'assemble -o -' cmp one.bin one.piped
 input=wrong.txt try 'an error in a pipe' 1 '' "standard input: line 4097, column 1: 8: ${words[8]}"$'\n' assemble steps -
 
 # dump steps: a malformed step is named by its place; the steps before it are printed.
+group 'malformed steps: dump and run name them'
 cat steps.bin > bad.bin
 for step in '04 00 00 00 05 00 00 00 00 00 00 00:action 4, kind 0, station 5, number 0' \
     '00 00 00 00 05 00 00 00 00 00 00 00:action 0, kind 0, station 5, number 0' \
@@ -116,3 +119,4 @@ for step in '04 00 00 00 05 00 00 00 00 00 00 00:action 4, kind 0, station 5, nu
     try "dump steps: ${step#*:}" 1 $'deliver 5 i7\n' "$said" dump steps bad.bin
     try "run: ${step#*:}" 1 "answer 10${listing#answer 0}" "$said" run table.bin bad.bin
 done
+end

@@ -1,0 +1,57 @@
+# One stored case each: a run of tests/situations.py, a table of tests/tables.py, a question.
+stored=$work/stored
+
+# stored_run CASE: status, listing, words and table are those of document 01, and dump and assemble give back table and list
+stored_run() {
+    local k=$1 answer wanted listing
+    rm -f after.bin
+    IFS= read -r -d '' listing < "$k.listing"
+    answer=${listing#answer } answer=${answer%% *}
+    wanted=$((answer == 0 ? 0 : answer == 16 ? 2 : 1))
+    ends "$wanted" run "$k.table" "$k.steps" -o after.bin && [ "$out" = "$listing" ] || return
+    if [ "$answer" -eq 0 ]; then [ -z "$err" ]; else [[ $err == *"$answer: ${words[$answer]}"* ]]; fi || return
+    if [ "$answer" -gt 0 ] && [ "$answer" -lt 10 ] || [ "$answer" -eq 16 ]; then
+        [ ! -e after.bin ]
+        return
+    fi
+    says 0 "${listing#*$'\n'}" '' dump table after.bin && circle table "$k.table" || return
+    [ "$answer" -ne 0 ] || circle steps "$k.steps"
+}
+# circle WHAT FILE: what dump prints, assemble turns back into the same bytes
+circle() {
+    "$program" dump "$1" "$2" > dumped.txt && "$program" assemble "$1" dumped.txt -o again.bin && same again.bin "$2"
+}
+# stored_question CASE QUESTION [STATION] NUMBER YES: the answer and its number
+stored_question() {
+    local k=$1 question=$2 station=()
+    shift 2
+    [ "$question" = line ] || { station=("$1"); shift; }
+    case $1$2 in
+    00) says 0 $'no\n' '' "$question" "$stored/run.$k.table" "${station[@]}" ;;
+    01) says 0 $'yes\n' '' "$question" "$stored/run.$k.table" "${station[@]}" ;;
+    *) ends 1 "$question" "$stored/run.$k.table" "${station[@]}" && [ -z "$out" ] && [[ $err == "$1: ${words[$1]}"* ]] ;;
+    esac
+}
+# stored_check CASE: the number, with the status that goes with it
+stored_check() {
+    local number
+    IFS= read -r number < "$1.number"
+    ends $((number == 0 ? 0 : number == 16 ? 2 : 1)) check "$1.table" && [ "$out" = "$number"$'\n' ]
+}
+
+# each FUNCTION FILE..: holds of every stored case of these tables
+each() {
+    local file
+    for file in "${@:2}"; do
+        holds "${file##*/}" "$1" "${file%.table}"
+    done
+}
+# each_question FILE: of every line; a file without a question is no test
+each_question() {
+    local question asked=0
+    while read -r question; do
+        asked=$((asked + 1))
+        holds "$question" stored_question $question
+    done < "$1"
+    holds 'a question was asked' [ "$asked" -gt 0 ]
+}
