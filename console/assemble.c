@@ -1,17 +1,13 @@
 /* `assemble`: station lines into a table, step lines into a step list. */
-#include <stdio.h>
 #include <stdlib.h>
 #include <string.h>
 
 #include "commands.h"
 #include "files.h"
 #include "save.h"
+#include "say.h"
 #include "station_line.h"
 #include "station_text.h"
-#include "words.h"
-
-/* The longest text that is read. A full table is under 20,000 bytes of text and a full step list under 110,000. */
-#define TEXT_BYTES ((size_t)1048576)
 
 /* The stations in the order given, each with its line. */
 struct stations {
@@ -22,9 +18,8 @@ struct stations {
 
 /* A refusal with the line and column where it shows. */
 static int refuse_at(uint32_t number, const struct line *line, size_t column) {
-    (void)fprintf(stderr, "%s: line %zu, column %zu: ", line->name, line->number, column);
-    say_refusal(number);
-    return REFUSED;
+    say_refusal_at(line->name, line->number, column, number);
+    return OTHER;
 }
 
 /* The first column of the words of a line. */
@@ -40,21 +35,21 @@ static int read_stations(struct text text, struct stations *stations) {
         if (stations->count == MOST_STATIONS)
             return refuse_at(STATION_LINE_BLOCKS, &line, first_column(line));
         if (!read_station_line(line, &stations->at[stations->count]))
-            return REFUSED;
+            return OTHER;
         stations->lines[stations->count] = line;
     }
     return DONE;
 }
 
 /* The check's number, with the place of the first word that it is about. */
-static int refuse_table(uint32_t number, const struct stations *stations) {
+static int refuse_table(const char *name, uint32_t number, const struct stations *stations) {
     for (size_t k = 0; k < stations->count; k++) {
         struct word word;
         if (find_fault(number, stations->lines[k], stations->at, stations->count, k, &word))
             return refuse_at(number, &stations->lines[k], word.column);
     }
-    say_refusal(number);
-    return REFUSED;
+    say_refusal(name, number);
+    return OTHER;
 }
 
 /* Blocks and messages stay in the order given; the check is the library's. */
@@ -69,7 +64,7 @@ static int assemble_table(struct text text, const char *out) {
     size_t len = BLOCK_BYTES * stations.count;
     uint32_t number = station_line_check(table, len);
     if (number != STATION_LINE_DONE)
-        return refuse_table(number, &stations);
+        return refuse_table(text.name, number, &stations);
     return save(out, table, len) ? DONE : TROUBLE;
 }
 
@@ -82,7 +77,7 @@ static int assemble_steps(struct text text, const char *out) {
         if (count == MOST_STEPS)
             return refuse_at(STATION_LINE_LIST_LENGTH, &line, first_column(line));
         if (!read_step_line(line, &step))
-            return REFUSED;
+            return OTHER;
         write_step(steps + STEP_BYTES * count, step);
     }
     return save(out, steps, STEP_BYTES * count) ? DONE : TROUBLE;
@@ -90,19 +85,22 @@ static int assemble_steps(struct text text, const char *out) {
 
 int assemble_command(const struct arguments *arguments) {
     const char *what = arguments->words[0], *path = arguments->words[1];
+    const char *out = arguments->options[OUTPUT] != NULL ? arguments->options[OUTPUT] : "-";
     bool table = strcmp(what, "table") == 0;
     if (!table && strcmp(what, "steps") != 0)
-        return wrong_use(what, "'table' or 'steps' is expected");
+        return say_wrong_use("assemble", what, "'table' or 'steps' is expected");
     char *bytes = malloc(TEXT_BYTES + 1);
     if (bytes == NULL) {
-        say_trouble(path, "out of memory");
+        say_trouble(name_of(path), "no memory is left");
         return TROUBLE;
     }
-    struct text text = {strcmp(path, "-") == 0 ? "standard input" : path, bytes, 0, 0, 0};
-    const char *out = arguments->out != NULL ? arguments->out : "-";
+    struct text text = {name_of(path), bytes, 0, 0, 0};
+    struct reason why;
     int status = TROUBLE;
-    if (read_file(path, (uint8_t *)bytes, TEXT_BYTES, &text.len))
+    if (read_text(path, (uint8_t *)bytes, &text.len, &why))
         status = table ? assemble_table(text, out) : assemble_steps(text, out);
+    else
+        say_unreadable(text.name, why);
     free(bytes);
     return status;
 }

@@ -1,111 +1,37 @@
-/* The run, the check, the two questions and the view: the library's own, over files. */
 #include "commands.h"
 
-#include <stdio.h>
 #include <string.h>
 
-#include "files.h"
-#include "listing.h"
-#include "save.h"
-#include "station_line.h"
-#include "text.h"
-#include "view.h"
-#include "words.h"
+const struct command commands[] = {
+    {"check", {"TABLE"}, {0}, check_command, "check TABLE", "the number of the check, 0 for accepted",
+     "Prints the number of the check: 0 for a table that is accepted, else 1 to 7.\n"},
+    {"run", {"TABLE", "STEPS"}, {[OUTPUT] = true}, run_command, "run TABLE STEPS [-o NEW]", "run a step list, print the listing, write the new table",
+     "Runs the step list over the table and prints the listing. The run stops at the first refused step.\n"
+     "\n"
+     "  -o, --output NEW    write the new table to NEW, at answer 0 and at 10 to 15\n"},
+    {"leave", {"TABLE", "NUMBER"}, {0}, leave_command, "leave TABLE NUMBER", "may the station leave? yes or no",
+     "Prints yes where the station's bag is empty and no other station has it as a neighbour or as an introduction in its bag,\n"
+     "else no. The exit status is 0 for yes and 1 for no.\n"},
+    {"line", {"TABLE"}, {0}, line_command, "line TABLE", "is the table in line? yes or no",
+     "Prints yes where each station's left is the next smaller station present, none for the smallest, and likewise its right,\n"
+     "else no. The exit status is 0 for yes and 1 for no.\n"},
+    {"view", {"TABLE"}, {0}, view_command, "view TABLE", "the blocks in stored order, then 'end'",
+     "Prints a line for each station in stored order, and then 'end'.\n"},
+    {"draw", {"TABLE"}, {0}, draw_command, "draw TABLE", "the line as Graphviz text",
+     "Prints the line as text for Graphviz: station-line draw table.bin | dot -Tsvg > line.svg\n"},
+    {"assemble", {"table|steps", "TEXT"}, {[OUTPUT] = true}, assemble_command, "assemble table|steps TEXT [-o OUT]", "station or step lines into a table or step list",
+     "Makes a table from station lines such as '5 3 - stay i7 l', or a step list from lines such as 'timeout 5', 'deliver 5 i7'\n"
+     "and 'exit 5'. Empty lines and lines that begin with '#' are passed over.\n"
+     "\n"
+     "  -o, --output OUT    write to OUT; without it, or where it is '-', to standard output\n"},
+    {"dump", {"table|steps", "FILE"}, {0}, dump_command, "dump table|steps FILE", "a table or step list back into lines",
+     "Prints the lines that 'assemble' turns back into the same bytes.\n"},
+    {0},
+};
 
-int wrong_use(const char *what, const char *why) {
-    say_trouble(what, why);
-    (void)fputs("Try 'station-line --help'.\n", stderr);
-    return TROUBLE;
-}
-
-/* "The check returns its number alone." */
-int check_command(const struct arguments *arguments) {
-    uint8_t table[TABLE_BYTES + 1];
-    size_t len;
-    if (!read_table(arguments->words[0], table, &len)) {
-        (void)printf("%u\n", (unsigned)UNREADABLE);
-        return TROUBLE;
-    }
-    uint32_t number = station_line_check(table, len);
-    (void)printf("%u\n", (unsigned)number);
-    if (number == STATION_LINE_DONE)
-        return DONE;
-    say_refusal(number);
-    return REFUSED;
-}
-
-/* Document 01, "The numbers": a table is written at 0 and at 10 to 15. */
-static bool is_written(uint32_t number) {
-    return number == STATION_LINE_DONE || number >= STATION_LINE_MALFORMED;
-}
-
-static int say_end(struct station_line_ran ran, const uint8_t *steps) {
-    if (ran.answer == STATION_LINE_DONE)
-        return DONE;
-    if (is_written(ran.answer))
-        say_refused_step(ran.answer, (size_t)ran.done + 1, read_step(steps + STEP_BYTES * ran.done));
-    else
-        say_refusal(ran.answer);
-    return REFUSED;
-}
-
-/* The table is safe in its file before the listing says that the run was done. */
-int run_command(const struct arguments *arguments) {
-    uint8_t table[TABLE_BYTES + 1], steps[STEPS_BYTES + 1], room[TABLE_BYTES];
-    size_t table_len, steps_len;
-    const char *table_path = arguments->words[0], *steps_path = arguments->words[1], *out = arguments->out;
-    if (strcmp(table_path, "-") == 0 && strcmp(steps_path, "-") == 0)
-        return wrong_use("-", "standard input can't be both the table and the step list");
-    if (out != NULL && strcmp(out, "-") == 0)
-        return wrong_use("-o -", "standard output takes the listing; name a file");
-    if (!read_table(table_path, table, &table_len) || !read_steps(steps_path, steps, &steps_len)) {
-        print_answer(stdout, (struct station_line_ran){UNREADABLE, 0, 0});
-        return TROUBLE;
-    }
-    struct station_line_ran ran = station_line_run(table, table_len, steps, steps_len, room, table_len);
-    if (out != NULL && is_written(ran.answer) && !save(out, room, BLOCK_BYTES * ran.stations))
-        return TROUBLE;
-    print_answer(stdout, ran);
-    if (is_written(ran.answer))
-        print_stations(stdout, room, ran.stations);
-    return say_end(ran, steps);
-}
-
-static int say_told(struct station_line_told told) {
-    if (told.answer != STATION_LINE_DONE) {
-        say_refusal(told.answer);
-        return REFUSED;
-    }
-    (void)printf("%s\n", told.yes != 0 ? "yes" : "no");
-    return DONE;
-}
-
-int leave_command(const struct arguments *arguments) {
-    uint8_t table[TABLE_BYTES + 1];
-    size_t len;
-    uint32_t station;
-    if (!read_number(arguments->words[1], strlen(arguments->words[1]), &station))
-        return wrong_use(arguments->words[1], "a station number is expected");
-    if (!read_table(arguments->words[0], table, &len))
-        return TROUBLE;
-    return say_told(station_line_may_leave(table, len, station));
-}
-
-int line_command(const struct arguments *arguments) {
-    uint8_t table[TABLE_BYTES + 1];
-    size_t len;
-    if (!read_table(arguments->words[0], table, &len))
-        return TROUBLE;
-    return say_told(station_line_in_line(table, len));
-}
-
-int view_command(const struct arguments *arguments) {
-    uint8_t table[TABLE_BYTES + 1];
-    struct view view;
-    int status = view_file(arguments->words[0], table, &view);
-    if (status == DONE) {
-        print_view(stdout, &view);
-        (void)printf("end\n");
-    }
-    return status;
+const struct command *find_command(const char *name) {
+    for (const struct command *command = commands; command->name != NULL; command++)
+        if (strcmp(command->name, name) == 0)
+            return command;
+    return NULL;
 }

@@ -1,16 +1,36 @@
-/* The commands of the program. Each gives the exit status; what they print to standard output is flushed and checked by main. */
+/* The commands of the program: their words and options, what helps with them, and what does them. */
 #ifndef COMMANDS_H
 #define COMMANDS_H
 
+#include <stdbool.h>
 #include <stddef.h>
 
-/* The words after the command, and the file of `-o`, null where there is none. */
+enum option { OUTPUT, OPTIONS };
+
+#define MOST_WORDS ((size_t)2)
+
+/* The words after the command, and each option's value: null where it isn't given, empty where it takes none. */
 struct arguments {
-    const char *words[2];
+    const char *words[MOST_WORDS];
     size_t count;
-    const char *out;
+    const char *options[OPTIONS];
 };
 
+struct command {
+    const char *name;
+    const char *words[MOST_WORDS]; /* as the help calls them; null for none */
+    bool options[OPTIONS];         /* those that it takes */
+    int (*does)(const struct arguments *);
+    const char *usage, *summary, *details;
+};
+
+/* All commands; the one behind the last has no name. */
+extern const struct command commands[];
+
+/* Null where there is none of that name. */
+const struct command *find_command(const char *name);
+
+/* Each gives the exit status; what they print to standard output is flushed and checked by main. */
 int check_command(const struct arguments *arguments);
 int run_command(const struct arguments *arguments);
 int leave_command(const struct arguments *arguments);
@@ -19,8 +39,5 @@ int view_command(const struct arguments *arguments);
 int assemble_command(const struct arguments *arguments);
 int dump_command(const struct arguments *arguments);
 int draw_command(const struct arguments *arguments);
-
-/* Wrong use: says why, points to --help and gives the exit status. */
-int wrong_use(const char *what, const char *why);
 
 #endif

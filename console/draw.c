@@ -5,8 +5,8 @@
 
 #include "commands.h"
 #include "layout.h"
-#include "view.h"
-#include "words.h"
+#include "open_table.h"
+#include "say.h"
 
 static int by_number(const void *a, const void *b) {
     uint32_t x = ((const struct station *)a)->number, y = ((const struct station *)b)->number;
@@ -57,12 +57,12 @@ static void draw(struct station *stations, size_t count) {
 int draw_command(const struct arguments *arguments) {
     uint8_t table[TABLE_BYTES + 1];
     struct station stations[MOST_STATIONS];
-    struct view view;
-    int status = view_file(arguments->words[0], table, &view);
+    struct walk walk;
+    int status = open_accepted(arguments->words[0], table, &walk);
     if (status != DONE)
         return status;
     size_t count = 0;
-    for (const uint8_t *block = view_next(&view); block != NULL && count < MOST_STATIONS; block = view_next(&view))
+    for (const uint8_t *block = walk_next(&walk); block != NULL && count < MOST_STATIONS; block = walk_next(&walk))
         read_block(block, &stations[count++]);
     draw(stations, count);
     return DONE;

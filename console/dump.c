@@ -5,16 +5,16 @@
 #include "commands.h"
 #include "files.h"
 #include "listing.h"
+#include "open_table.h"
+#include "say.h"
 #include "station_line.h"
-#include "view.h"
-#include "words.h"
 
 static int dump_table(const char *path) {
     uint8_t table[TABLE_BYTES + 1];
-    struct view view;
-    int status = view_file(path, table, &view);
+    struct walk walk;
+    int status = open_accepted(path, table, &walk);
     if (status == DONE)
-        print_view(stdout, &view);
+        print_walk(stdout, &walk);
     return status;
 }
 
@@ -27,19 +27,22 @@ static bool malformed(const uint8_t *step) {
 static int dump_steps(const char *path) {
     uint8_t steps[STEPS_BYTES + 1];
     size_t len;
-    if (!read_steps(path, steps, &len))
+    struct reason why;
+    if (!read_steps(path, steps, &len, &why)) {
+        say_unreadable(name_of(path), why);
         return TROUBLE;
+    }
     if (len % STEP_BYTES != 0) {
-        say_refusal(STATION_LINE_LIST_LENGTH);
-        return REFUSED;
+        say_refusal(name_of(path), STATION_LINE_LIST_LENGTH);
+        return OTHER;
     }
     for (size_t at = 0; at < len; at += STEP_BYTES) {
+        struct step step = read_step(steps + at);
         if (malformed(steps + at)) {
-            say_refused_step(STATION_LINE_MALFORMED, at / STEP_BYTES + 1, read_step(steps + at));
-            return REFUSED;
+            say_refusal_with(name_of(path), STATION_LINE_MALFORMED, "step %zu: %s", at / STEP_BYTES + 1, malformed_text(step).text);
+            return OTHER;
         }
-        print_step(stdout, read_step(steps + at));
-        (void)fputc('\n', stdout);
+        (void)puts(step_text(step).text);
     }
     return DONE;
 }
@@ -50,5 +53,5 @@ int dump_command(const struct arguments *arguments) {
         return dump_table(path);
     if (strcmp(what, "steps") == 0)
         return dump_steps(path);
-    return wrong_use(what, "'table' or 'steps' is expected");
+    return say_wrong_use("dump", what, "'table' or 'steps' is expected");
 }

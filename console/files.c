@@ -3,12 +3,16 @@
 
 #include <errno.h>
 #include <fcntl.h>
-#include <stdio.h>
 #include <string.h>
 #include <unistd.h>
 
-#include "layout.h"
-#include "words.h"
+static bool is_standard(const char *path) {
+    return strcmp(path, "-") == 0;
+}
+
+const char *name_of(const char *path) {
+    return is_standard(path) ? "standard input" : path;
+}
 
 /* Reads until the room is full or the file ends; false with errno set where a read fails. */
 static bool read_whole(int file, uint8_t *bytes, size_t room, size_t *len) {
@@ -26,38 +30,31 @@ static bool read_whole(int file, uint8_t *bytes, size_t room, size_t *len) {
     return true;
 }
 
-static bool refuse(const char *path, const char *why, size_t *len) {
+static bool read_file(const char *path, uint8_t *bytes, size_t most, size_t *len, const char *too_long, struct reason *why) {
+    static const char unread[] = "can't be read";
     *len = 0;
-    say_unreadable(path, why);
-    return false;
-}
-
-bool read_file(const char *path, uint8_t *bytes, size_t most, size_t *len) {
-    bool standard = strcmp(path, "-") == 0;
-    const char *name = standard ? "standard input" : path;
-    int file = standard ? STDIN_FILENO : open(path, O_RDONLY);
+    int file = is_standard(path) ? STDIN_FILENO : open(path, O_RDONLY | O_NOCTTY | O_CLOEXEC);
     if (file < 0)
-        return refuse(name, strerror(errno), len);
+        return because(why, unread, errno);
     bool whole = read_whole(file, bytes, most + 1, len);
     int trouble = errno;
-    if (!standard && close(file) != 0 && whole) {
-        whole = false;
-        trouble = errno;
-    }
-    if (!whole)
-        return refuse(name, strerror(trouble), len);
-    if (*len > most) {
-        char why[40];
-        (void)snprintf(why, sizeof why, "over %zu bytes", most);
-        return refuse(name, why, len);
+    if (!is_standard(path))
+        (void)close(file); /* all was read by then */
+    if (!whole || *len > most) {
+        *len = 0;
+        return whole ? because(why, too_long, 0) : because(why, unread, trouble);
     }
     return true;
 }
 
-bool read_table(const char *path, uint8_t *table, size_t *len) {
-    return read_file(path, table, TABLE_BYTES, len);
+bool read_table(const char *path, uint8_t *table, size_t *len, struct reason *why) {
+    return read_file(path, table, TABLE_BYTES, len, "over 32,768 bytes", why);
 }
 
-bool read_steps(const char *path, uint8_t *steps, size_t *len) {
-    return read_file(path, steps, STEPS_BYTES, len);
+bool read_steps(const char *path, uint8_t *steps, size_t *len, struct reason *why) {
+    return read_file(path, steps, STEPS_BYTES, len, "over 49,152 bytes", why);
+}
+
+bool read_text(const char *path, uint8_t *text, size_t *len, struct reason *why) {
+    return read_file(path, text, TEXT_BYTES, len, "over 1,048,576 bytes", why);
 }

@@ -1,4 +1,4 @@
-/* Files read whole, `-` being standard input. */
+/* Files read whole, `-` being standard input. Where one can't be read or is too long, false with the reason; nothing is said. */
 #ifndef FILES_H
 #define FILES_H
 
@@ -6,12 +6,19 @@
 #include <stddef.h>
 #include <stdint.h>
 
-/* Reads the file into `bytes`, which has room for `most` and one more, so that a file that is too long is seen. Where it can't be
- * read or is too long, says 16 with the reason and gives false. */
-bool read_file(const char *path, uint8_t *bytes, size_t most, size_t *len);
+#include "layout.h"
+#include "reason.h"
 
-/* A whole table (room for TABLE_BYTES + 1), and a whole step list (room for STEPS_BYTES + 1). */
-bool read_table(const char *path, uint8_t *table, size_t *len);
-bool read_steps(const char *path, uint8_t *steps, size_t *len);
+/* The longest text that is read. A full table is under 20,000 bytes of text and a full step list under 110,000. */
+#define TEXT_BYTES ((size_t)1048576)
+
+/* Each room has one byte more than is allowed (TABLE_BYTES + 1, STEPS_BYTES + 1, TEXT_BYTES + 1), so that a file that is too long is
+ * seen. */
+bool read_table(const char *path, uint8_t *table, size_t *len, struct reason *why);
+bool read_steps(const char *path, uint8_t *steps, size_t *len, struct reason *why);
+bool read_text(const char *path, uint8_t *text, size_t *len, struct reason *why);
+
+/* How what is said of a file calls it. */
+const char *name_of(const char *path);
 
 #endif

@@ -7,14 +7,18 @@
 
 #include "layout.h"
 #include "station_line.h"
-#include "view.h"
+#include "walk.h"
 
 /* "number, left, right (`-` for none), `stay` or `leave`, then messages as `i` with the number, `l` or `r`", in stored order; a
  * line. */
 void print_station(FILE *out, const struct station *station);
 
-/* `timeout 5`, `deliver 5 i7`, `deliver 5 l`, `deliver 5 r` or `exit 5`, without an end of line; the step is not malformed. */
-void print_step(FILE *out, struct step step);
+/* The text of a step: `timeout 5`, `deliver 5 i7`, `deliver 5 l`, `deliver 5 r` or `exit 5`, or the four fields of a malformed one. */
+struct step_text {
+    char text[80];
+};
+struct step_text step_text(struct step step);
+struct step_text malformed_text(struct step step);
 
 /* The first line of the listing. */
 void print_answer(FILE *out, struct station_line_ran ran);
@@ -22,7 +26,7 @@ void print_answer(FILE *out, struct station_line_ran ran);
 /* A line for each station of a table that a run wrote. */
 void print_stations(FILE *out, const uint8_t *table, size_t stations);
 
-/* A line for each station that the view has left. */
-void print_view(FILE *out, struct view *view);
+/* A line for each station that the walk has left. */
+void print_walk(FILE *out, struct walk *walk);
 
 #endif

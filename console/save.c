@@ -10,7 +10,7 @@
 #include <sys/stat.h>
 #include <unistd.h>
 
-#include "words.h"
+#include "say.h"
 
 /* Each function below gives false with errno set where it fails; `save` alone says so. */
 
@@ -61,7 +61,7 @@ static bool dress(int file, const struct stat *old) {
 static void sync_folder(const char *folder) {
     int file = open(folder, O_RDONLY | O_DIRECTORY);
     if (file >= 0 && !close_after(file, fsync(file) == 0 || errno == EINVAL))
-        say_trouble(folder, strerror(errno));
+        say_trouble(folder, "%s", strerror(errno));
 }
 
 /* `old` is null where there is no file of that name. */
@@ -81,7 +81,7 @@ static bool replace(const char *folder, const char *target, const struct stat *o
         if (good)
             sync_folder(folder);
         else if (unlink(beside) != 0)
-            say_trouble(beside, strerror(errno));
+            say_trouble(beside, "%s", strerror(errno));
         errno = trouble;
     }
     return free_after(beside, good);
@@ -128,8 +128,7 @@ bool save(const char *path, const uint8_t *bytes, size_t len) {
     else
         good = errno == ENOENT && replace_beside(path, NULL, bytes, len);
     if (!good) {
-        const char *why = strerror(errno);
-        (void)fprintf(stderr, "station-line: %s: not written: %s\n", strcmp(path, "-") == 0 ? "standard output" : path, why);
+        say_trouble(strcmp(path, "-") == 0 ? "standard output" : path, "not written: %s", strerror(errno));
     }
     return good;
 }

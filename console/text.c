@@ -1,7 +1,8 @@
 #include "text.h"
 
-#include <stdio.h>
 #include <string.h>
+
+#include "say.h"
 
 /* The return of a line that ends in CR LF counts as a blank. */
 static bool blank(char c) {
@@ -59,17 +60,7 @@ bool read_number(const char *bytes, size_t len, uint32_t *value) {
     return len > 0;
 }
 
-/* At most 40 bytes of the word are shown, and a byte that isn't printable ASCII as `?`. */
 bool fault(const struct line *line, struct word word, const char *wrong) {
-    char shown[41];
-    size_t len = word.len < sizeof shown - 1 ? word.len : sizeof shown - 1;
-    for (size_t i = 0; i < len; i++)
-        shown[i] = word.bytes[i] >= ' ' && word.bytes[i] <= '~' ? word.bytes[i] : '?';
-    shown[len] = '\0';
-    (void)fprintf(stderr, "%s: line %zu, column %zu: ", line->name, line->number, word.column);
-    if (word.len == 0)
-        (void)fprintf(stderr, "the line ends early: %s\n", wrong);
-    else
-        (void)fprintf(stderr, "'%s': %s\n", shown, wrong);
+    say_word_at(line->name, line->number, word.column, word.bytes, word.len, wrong);
     return false;
 }

@@ -25,7 +25,7 @@ holds 'test: a program that dies after its last line' refuses says 0 $'0\n' '' c
 fake 'echo 0' 'printf "\0more"'
 holds 'test: more behind a byte 0' refuses says 0 $'0\n' '' check
 . "$root/tests/console/stored_cases.sh"
-fake 'echo "11: station not present" >&2' 'exit 1'
+fake 'echo "station-line: $2: 11: station not present" >&2' 'exit 1'
 holds 'test: a question with its number' stored_question 1 leave 6 11 0
 holds 'test: a question with another number' refuses stored_question 1 leave 6 12 0
 program=$real

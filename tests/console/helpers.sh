@@ -112,10 +112,17 @@ words=(
     [13]='exit by a staying station'
     [14]='exit, leaving, NIDEC false'
     [15]='a bag that must receive holds 32'
-    [16]="a file can't be read, or is over 32,768 (table) or 49,152 (steps) bytes"
 )
 
-# say NUMBER [DETAIL]: the line that says it, in $said
+# say NUMBER FILE [DETAIL]: the line that says it, in $said; of 16 the detail is the reason
 say() {
-    said="$1: ${words[$1]}${2:+ ($2)}"$'\n'
+    if [ "$1" -eq 16 ]; then
+        said="station-line: $2: 16: $3"$'\n'
+    else
+        said="station-line: $2: $1: ${words[$1]}${3:+ ($3)}"$'\n'
+    fi
+}
+# misuse WORD WHAT [COMMAND]: the line that says what is wrong with the use, in $said
+misuse() {
+    said="station-line: $1: $2; see 'station-line ${3:+$3 }--help'"$'\n'
 }

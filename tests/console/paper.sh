@@ -31,8 +31,8 @@ try 'both from pipes' 0 "$listing" '' run <(cat table.bin) <(cat steps.bin)
 input=table.bin try 'check from a pipe' 0 $'0\n' '' check -
 input=table.bin try 'view from a pipe' 0 "${example}end"$'\n' '' view -
 input=table.bin try 'dump from a pipe' 0 "$example" '' dump table -
-input=table.bin try 'leave from a pipe' 0 $'no\n' '' leave - 7
-input=table.bin try 'line from a pipe' 0 $'no\n' '' line -
+input=table.bin try 'leave from a pipe' 1 $'no\n' '' leave - 7
+input=table.bin try 'line from a pipe' 1 $'no\n' '' line -
 
 # "A block of station 5, staying, left none, right 9, one introduction of 7 ... the check word is 65,511 (bytes E7 FF)."
 table word.bin '5 - 9 stay i7' '7 - - stay' '9 - - stay'
@@ -69,7 +69,7 @@ situation() {
 # say_step ANSWER STEP: what is said of the one step of a list
 say_step() {
     said=
-    [ "${1%% *}" -eq 0 ] || say "${1%% *}" "step 1: $2"
+    [ "${1%% *}" -eq 0 ] || say "${1%% *}" step.bin "step 1: $2"
 }
 situation '1: introduction 7' 'deliver 5 i7' 0 'answer 0 done 1 stations 4' '3 - 5 stay' '5 3 9 stay i7' '7 - - stay' '9 5 - stay' \
     -- '3 - 5 stay' '5 3 7 stay' '7 - - stay i9' '9 5 - stay'
@@ -107,6 +107,6 @@ try 'the empty table and the empty list' 0 $'answer 0 done 0 stations 0\n' '' ru
 printf 'timeout 5\nexit 5\ntimeout 5\n' > stop.txt
 try 'assemble three steps' 0 '' '' assemble steps stop.txt -o stop.bin
 stopped=$'answer 13 done 1 stations 4\n3 - 5 stay i5\n5 3 9 stay i7\n7 - - stay\n9 5 - stay i5\n'
-say 13 'step 2: exit 5'
+say 13 stop.bin 'step 2: exit 5'
 try 'a run that stops' 1 "$stopped" "$said" run table.bin stop.bin -o stopped.bin
 try 'the table after the steps done' 0 "${stopped#*$'\n'}" '' dump table stopped.bin

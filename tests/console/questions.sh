@@ -2,23 +2,23 @@
 table asked.bin '3 - 5 stay' '5 3 9 stay i7' '7 - - stay' '9 5 - stay'
 group 'no station of the example may leave'
 for station in 3 5 7 9; do
-    try "station $station" 0 $'no\n' '' leave asked.bin "$station"
+    try "station $station" 1 $'no\n' '' leave asked.bin "$station"
 done
 end
-say 11
 group '11: any number without a block is absent'
 for station in 0 6 999999 1000000 4294967295 4294967296 4294967301 99999999999999999999999999; do
+    say 11 asked.bin "station $station"
     try "station $station" 1 '' "$said" leave asked.bin "$station"
 done
 end
-try 'not in line' 0 $'no\n' '' line asked.bin
+try 'not in line' 1 $'no\n' '' line asked.bin
 table straight.bin '9 5 - stay' '3 - 5 leave' '5 3 9 stay l'
 try 'in line, in another order' 0 $'yes\n' '' line straight.bin
 try 'the view of it' 0 $'9 5 - stay\n3 - 5 leave\n5 3 9 stay l\nend\n' '' view straight.bin
 table free.bin '7 - 9 stay' '9 - - leave i9'
 try 'yes, without a leaving mark' 0 $'yes\n' '' leave free.bin 7
 try 'a number with a zero before it' 0 $'yes\n' '' leave free.bin 07
-try 'no, with one' 0 $'no\n' '' leave free.bin 9
+try 'no, with one' 1 $'no\n' '' leave free.bin 9
 
 : > empty
 try 'check: the empty table' 0 $'0\n' '' check empty
@@ -26,6 +26,7 @@ try 'line: the empty table' 0 $'yes\n' '' line empty
 try 'view: the empty table' 0 $'end\n' '' view empty
 try 'dump: the empty table' 0 '' '' dump table empty
 try 'dump: the empty list' 0 '' '' dump steps empty
+say 11 empty 'station 5'
 try 'leave: the empty table' 1 '' "$said" leave empty 5
 try 'assemble: the empty table' 0 '' '' assemble table empty
 try 'assemble: the empty list' 0 '' '' assemble steps empty

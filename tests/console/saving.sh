@@ -20,8 +20,6 @@ try 'run: a folder that is a file' 2 '' "$said" run table.bin steps.bin -o table
 try 'assemble: a folder that is a file' 2 '' "$said" assemble table stations.txt -o table.bin/new
 why none/new 'No such file or directory'
 try 'run: no such folder' 2 '' "$said" run table.bin steps.bin -o none/new
-why '' 'No such file or directory'
-try 'run: no name' 2 '' "$said" run table.bin steps.bin -o ''
 why .. 'Is a directory'
 try 'run: a folder' 2 '' "$said" run table.bin steps.bin -o ..
 why ./ 'Is a directory'

@@ -9,7 +9,12 @@ stored_run() {
     answer=${listing#answer } answer=${answer%% *}
     wanted=$((answer == 0 ? 0 : answer == 16 ? 2 : 1))
     ends "$wanted" run "$k.table" "$k.steps" -o after.bin && [ "$out" = "$listing" ] || return
-    if [ "$answer" -eq 0 ]; then [ -z "$err" ]; else [[ $err == *"$answer: ${words[$answer]}"* ]]; fi || return
+    case $answer in
+    0) [ -z "$err" ] ;;
+    16) [[ $err == "station-line: $k."*": 16: over "* ]] ;;
+    [1-7]) [[ $err == "station-line: $k.table: $answer: ${words[$answer]}"* ]] ;;
+    *) [[ $err == "station-line: $k.steps: $answer: ${words[$answer]}"* ]] ;;
+    esac || return
     if [ "$answer" -gt 0 ] && [ "$answer" -lt 10 ] || [ "$answer" -eq 16 ]; then
         [ ! -e after.bin ]
         return
@@ -27,9 +32,9 @@ stored_question() {
     shift 2
     [ "$question" = line ] || { station=("$1"); shift; }
     case $1$2 in
-    00) says 0 $'no\n' '' "$question" "$stored/run.$k.table" "${station[@]}" ;;
+    00) says 1 $'no\n' '' "$question" "$stored/run.$k.table" "${station[@]}" ;;
     01) says 0 $'yes\n' '' "$question" "$stored/run.$k.table" "${station[@]}" ;;
-    *) ends 1 "$question" "$stored/run.$k.table" "${station[@]}" && [ -z "$out" ] && [[ $err == "$1: ${words[$1]}"* ]] ;;
+    *) ends 1 "$question" "$stored/run.$k.table" "${station[@]}" && [ -z "$out" ] && [[ $err == "station-line: $stored/run.$k.table: $1: ${words[$1]}"* ]] ;;
     esac
 }
 # stored_check CASE: the number, with the status that goes with it

@@ -1,0 +1,78 @@
+/* `run`: a step list over a table, the listing, and the new table in its file. */
+#include <stdio.h>
+#include <string.h>
+
+#include "commands.h"
+#include "files.h"
+#include "listing.h"
+#include "save.h"
+#include "say.h"
+#include "station_line.h"
+
+/* The files of a run, and what they hold. */
+struct input {
+    const char *table_path, *steps_path;
+    uint8_t table[TABLE_BYTES + 1], steps[STEPS_BYTES + 1];
+    size_t table_len, steps_len;
+};
+
+/* 16: the answer first, and then why. */
+static int refuse_file(const char *path, struct reason why) {
+    print_answer(stdout, (struct station_line_ran){UNREADABLE, 0, 0});
+    say_unreadable(name_of(path), why);
+    return TROUBLE;
+}
+
+static int read_input(struct input *input) {
+    struct reason why;
+    if (!read_table(input->table_path, input->table, &input->table_len, &why))
+        return refuse_file(input->table_path, why);
+    if (!read_steps(input->steps_path, input->steps, &input->steps_len, &why))
+        return refuse_file(input->steps_path, why);
+    return DONE;
+}
+
+/* Document 01, "The numbers": a table is written at 0 and at 10 to 15. */
+static bool is_written(uint32_t number) {
+    return number == STATION_LINE_DONE || number >= STATION_LINE_MALFORMED;
+}
+
+static int say_end(struct station_line_ran ran, const struct input *input) {
+    const char *table = name_of(input->table_path), *steps = name_of(input->steps_path);
+    if (ran.answer == STATION_LINE_DONE)
+        return DONE;
+    if (is_written(ran.answer)) {
+        struct step step = read_step(input->steps + STEP_BYTES * ran.done);
+        struct step_text text = ran.answer == STATION_LINE_MALFORMED ? malformed_text(step) : step_text(step);
+        say_refusal_with(steps, ran.answer, "step %zu: %s", (size_t)ran.done + 1, text.text);
+    } else {
+        say_refusal(ran.answer < STATION_LINE_LIST_LENGTH ? table : steps, ran.answer);
+    }
+    return OTHER;
+}
+
+/* The table is safe in its file before the listing says that the run was done. */
+static int run(const struct input *input, const char *out) {
+    uint8_t room[TABLE_BYTES];
+    struct station_line_ran ran =
+        station_line_run(input->table, input->table_len, input->steps, input->steps_len, room, input->table_len);
+    if (out != NULL && is_written(ran.answer) && !save(out, room, BLOCK_BYTES * ran.stations))
+        return TROUBLE;
+    print_answer(stdout, ran);
+    if (is_written(ran.answer))
+        print_stations(stdout, room, ran.stations);
+    return say_end(ran, input);
+}
+
+int run_command(const struct arguments *arguments) {
+    const char *out = arguments->options[OUTPUT];
+    struct input input;
+    input.table_path = arguments->words[0];
+    input.steps_path = arguments->words[1];
+    if (strcmp(input.table_path, "-") == 0 && strcmp(input.steps_path, "-") == 0)
+        return say_wrong_use("run", "-", "standard input can't be both the table and the step list");
+    if (out != NULL && strcmp(out, "-") == 0)
+        return say_wrong_use("run", "-o -", "standard output takes the listing");
+    int status = read_input(&input);
+    return status == DONE ? run(&input, out) : status;
+}
