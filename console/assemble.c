@@ -52,6 +52,12 @@ static int refuse_table(const char *name, uint32_t number, const struct stations
     return OTHER;
 }
 
+static int put_out(const char *out, const uint8_t *bytes, size_t len) {
+    struct reason why;
+    enum saved saved = save(out, bytes, len, &why);
+    return tell_saved(out, saved, why);
+}
+
 /* Blocks and messages stay in the order given; the check is the library's. */
 static int assemble_table(struct text text, const char *out) {
     struct stations stations;
@@ -65,7 +71,7 @@ static int assemble_table(struct text text, const char *out) {
     uint32_t number = station_line_check(table, len);
     if (number != STATION_LINE_DONE)
         return refuse_table(text.name, number, &stations);
-    return save(out, table, len) ? DONE : TROUBLE;
+    return put_out(out, table, len);
 }
 
 static int assemble_steps(struct text text, const char *out) {
@@ -80,7 +86,7 @@ static int assemble_steps(struct text text, const char *out) {
             return OTHER;
         write_step(steps + STEP_BYTES * count, step);
     }
-    return save(out, steps, STEP_BYTES * count) ? DONE : TROUBLE;
+    return put_out(out, steps, STEP_BYTES * count);
 }
 
 int assemble_command(const struct arguments *arguments) {

@@ -5,10 +5,11 @@
 const struct command commands[] = {
     {"check", {"TABLE"}, {0}, check_command, "check TABLE", "the number of the check, 0 for accepted",
      "Prints the number of the check: 0 for a table that is accepted, else 1 to 7.\n"},
-    {"run", {"TABLE", "STEPS"}, {[OUTPUT] = true}, run_command, "run TABLE STEPS [-o NEW]", "run a step list, print the listing, write the new table",
+    {"run", {"TABLE", "STEPS"}, {[OUTPUT] = true, [ALL_OR_NOTHING] = true}, run_command, "run TABLE STEPS [-o NEW]", "run a step list, print the listing, write the new table",
      "Runs the step list over the table and prints the listing. The run stops at the first refused step.\n"
      "\n"
-     "  -o, --output NEW    write the new table to NEW, at answer 0 and at 10 to 15\n"},
+     "  -o, --output NEW    write the new table to NEW, at answer 0 and at 10 to 15, where the run stopped\n"
+     "  --all-or-nothing    write it at answer 0 only\n"},
     {"leave", {"TABLE", "NUMBER"}, {0}, leave_command, "leave TABLE NUMBER", "may the station leave? yes or no",
      "Prints yes where the station's bag is empty and no other station has it as a neighbour or as an introduction in its bag,\n"
      "else no. The exit status is 0 for yes and 1 for no.\n"},

@@ -6,6 +6,7 @@
 #include <string.h>
 
 #include "commands.h"
+#include "descriptors.h"
 #include "help.h"
 #include "options.h"
 #include "say.h"
@@ -41,6 +42,7 @@ static int act(int argc, char **argv) {
 }
 
 int main(int argc, char **argv) {
+    hold_standard_places();
     (void)setvbuf(stderr, NULL, _IOLBF, BUFSIZ); /* a line goes out whole, beside those of other programs */
 #ifdef SIGXFSZ
     /* A file that may not grow further is then an error of the write, which is told, and not the end of the program. */

@@ -10,6 +10,7 @@ static const struct form {
     const char *brief, *name, *value;
 } forms[OPTIONS] = {
     [OUTPUT] = {"-o", "--output", "a file's name is missing"},
+    [ALL_OR_NOTHING] = {NULL, "--all-or-nothing", NULL},
 };
 
 static bool begins(const char *word, const char *start) {

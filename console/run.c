@@ -51,28 +51,45 @@ static int say_end(struct station_line_ran ran, const struct input *input) {
     return OTHER;
 }
 
-/* The table is safe in its file before the listing says that the run was done. */
-static int run(const struct input *input, const char *out) {
+/* Where the new table goes, null for nowhere, and whether only a run that does every step is to write it. */
+struct output {
+    const char *path;
+    bool all_or_nothing;
+};
+
+static bool is_saved(struct output output, uint32_t number) {
+    return output.path != NULL && is_written(number) && (number == STATION_LINE_DONE || !output.all_or_nothing);
+}
+
+/* The table is safe in its file before the listing says that the run was done. Where it can't be written there is no listing. */
+static int run(const struct input *input, struct output output) {
     uint8_t room[TABLE_BYTES];
+    struct reason why = {NULL, 0};
     struct station_line_ran ran =
         station_line_run(input->table, input->table_len, input->steps, input->steps_len, room, input->table_len);
-    if (out != NULL && is_written(ran.answer) && !save(out, room, BLOCK_BYTES * ran.stations))
-        return TROUBLE;
+    enum saved saved = is_saved(output, ran.answer) ? save(output.path, room, BLOCK_BYTES * ran.stations, &why) : SAVED;
+    if (saved == UNSAVED)
+        return tell_saved(output.path, saved, why);
     print_answer(stdout, ran);
     if (is_written(ran.answer))
         print_stations(stdout, room, ran.stations);
-    return say_end(ran, input);
+    int status = say_end(ran, input);
+    if (output.path != NULL && is_written(ran.answer) && !is_saved(output, ran.answer))
+        say_trouble(output.path, "not written: the run stopped");
+    return saved == SAVED ? status : tell_saved(output.path, saved, why);
 }
 
 int run_command(const struct arguments *arguments) {
-    const char *out = arguments->options[OUTPUT];
+    struct output output = {arguments->options[OUTPUT], arguments->options[ALL_OR_NOTHING] != NULL};
     struct input input;
     input.table_path = arguments->words[0];
     input.steps_path = arguments->words[1];
     if (strcmp(input.table_path, "-") == 0 && strcmp(input.steps_path, "-") == 0)
         return say_wrong_use("run", "-", "standard input can't be both the table and the step list");
-    if (out != NULL && strcmp(out, "-") == 0)
+    if (output.path != NULL && strcmp(output.path, "-") == 0)
         return say_wrong_use("run", "-o -", "standard output takes the listing");
+    if (output.path == NULL && output.all_or_nothing)
+        return say_wrong_use("run", "--all-or-nothing", "goes with -o");
     int status = read_input(&input);
-    return status == DONE ? run(&input, out) : status;
+    return status == DONE ? run(&input, output) : status;
 }

@@ -3,132 +3,130 @@
 
 #include <errno.h>
 #include <fcntl.h>
-#include <libgen.h>
-#include <stdio.h>
 #include <stdlib.h>
 #include <string.h>
 #include <sys/stat.h>
 #include <unistd.h>
 
+#include "descriptors.h"
+#include "dress.h"
 #include "say.h"
+#include "temporary.h"
 
-/* Each function below gives false with errno set where it fails; `save` alone says so. */
+/* What is to be written, and the file that is replaced, open, or -1 where there is none. */
+struct content {
+    const uint8_t *bytes;
+    size_t len;
+    int old;
+};
 
-static bool write_whole(int file, const uint8_t *bytes, size_t len) {
-    size_t done = 0;
-    while (done < len) {
-        ssize_t put = write(file, bytes + done, len - done);
-        if (put < 0 && errno == EINTR)
-            continue;
-        if (put < 0)
-            return false;
-        done += (size_t)put;
-    }
+static enum saved unsaved(struct reason *why, const char *what, int error) {
+    (void)because(why, what, error);
+    return UNSAVED;
+}
+
+static bool fill(int file, struct content content, struct reason *why) {
+    if (!write_whole(file, content.bytes, content.len))
+        return because(why, "the new file can't be written", errno);
+    if (content.old >= 0 && !dress(file, content.old, why))
+        return false;
+    if (fsync(file) != 0)
+        return because(why, "the new file can't be synced", errno);
     return true;
 }
 
-/* Closes the file whatever came before and keeps the first failure. */
-static bool close_after(int file, bool good) {
-    int first = errno;
-    bool closed = close(file) == 0;
-    if (!good)
-        errno = first;
-    return good && closed;
+/* The new name lasts through a power cut only when the folder is synced as well. A file system that syncs no folders has its own
+ * way. */
+static bool sync_folder(int folder, struct reason *why) {
+    if (fsync(folder) == 0 || errno == EINVAL)
+        return true;
+    return because(why, "its folder can't be synced", errno);
 }
 
-static bool free_after(char *bytes, bool good) {
-    int first = errno;
-    free(bytes);
-    errno = first;
-    return good;
+static enum saved replace_in(int folder, const char *name, struct content content, struct reason *why) {
+    struct temporary temporary;
+    if (!temporary_make(&temporary, folder, content.old < 0 ? 0666 : 0600))
+        return unsaved(why, "no new file can be made beside it", errno);
+    bool good = fill(temporary.file, content, why);
+    if (!close_after(temporary.file, good) && good)
+        good = because(why, "the new file can't be closed", errno);
+    if (good && !temporary_rename(&temporary, name))
+        good = because(why, errno == EBUSY ? "it can't be replaced (is it a mount point?)" : "it can't be replaced", errno);
+    if (good)
+        return sync_folder(folder, why) ? SAVED : UNSYNCED;
+    if (!temporary_drop(&temporary))
+        say_reason(temporary.name, "left behind", (struct reason){"it can't be removed", errno});
+    return UNSAVED;
 }
 
-/* The mode and owner of the file that is replaced, or the usual mode of a new one. */
-static bool dress(int file, const struct stat *old) {
-    if (old == NULL) {
-        mode_t mask = umask(0);
-        (void)umask(mask);
-        return fchmod(file, 0666 & ~mask) == 0;
-    }
-    if (geteuid() == 0 && fchown(file, old->st_uid, old->st_gid) != 0)
-        return false;
-    return fchmod(file, old->st_mode & 0777) == 0;
+/* The folder is what stands before the last slash. A path that ends in one names no file. */
+static enum saved replace(const char *path, struct content content, struct reason *why) {
+    const char *slash = strrchr(path, '/'), *name = slash != NULL ? slash + 1 : path;
+    if (name[0] == '\0')
+        return unsaved(why, "it is no file's name", 0);
+    char *folder_path = slash == NULL ? strdup(".") : strndup(path, slash == path ? 1 : (size_t)(slash - path));
+    if (folder_path == NULL)
+        return unsaved(why, "no memory is left", errno);
+    int folder = open(folder_path, O_RDONLY | O_DIRECTORY | O_CLOEXEC);
+    enum saved saved = folder < 0 ? unsaved(why, "its folder can't be opened", errno) : replace_in(folder, name, content, why);
+    if (folder >= 0)
+        (void)close(folder); /* nothing was written through it */
+    free(folder_path);
+    return saved;
 }
 
-/* The new name lasts through a power cut only when the folder is synced as well. The file is whole under its name by then, so
- * trouble here is told and is no failure; a folder that can't be opened for reading, or that its file system doesn't sync, is
- * passed over. */
-static void sync_folder(const char *folder) {
-    int file = open(folder, O_RDONLY | O_DIRECTORY);
-    if (file >= 0 && !close_after(file, fsync(file) == 0 || errno == EINVAL))
-        say_trouble(folder, "%s", strerror(errno));
-}
-
-/* `old` is null where there is no file of that name. */
-static bool replace(const char *folder, const char *target, const struct stat *old, const uint8_t *bytes, size_t len) {
-    static const char ending[] = "/.station-line-XXXXXX";
-    size_t room = strlen(folder) + sizeof ending;
-    char *beside = malloc(room);
-    if (beside == NULL)
-        return false;
-    (void)snprintf(beside, room, "%s%s", folder, ending);
-    int file = mkstemp(beside);
-    bool good = file >= 0;
-    if (good) {
-        good = close_after(file, write_whole(file, bytes, len) && dress(file, old) && fsync(file) == 0);
-        good = good && rename(beside, target) == 0;
-        int trouble = errno;
-        if (good)
-            sync_folder(folder);
-        else if (unlink(beside) != 0)
-            say_trouble(beside, "%s", strerror(errno));
-        errno = trouble;
-    }
-    return free_after(beside, good);
-}
-
-static bool replace_beside(const char *target, const struct stat *old, const uint8_t *bytes, size_t len) {
-    char *copy = strdup(target); /* dirname may write to what it is given */
-    if (copy == NULL)
-        return false;
-    return free_after(copy, replace(dirname(copy), target, old, bytes, len));
-}
-
-static bool write_as_it_stands(const char *path, const uint8_t *bytes, size_t len) {
-    int file = open(path, O_WRONLY);
-    return file >= 0 && close_after(file, write_whole(file, bytes, len));
-}
-
-/* What stands under the name: a file that is replaced where it is, behind any links; a pipe or a device; or something else. */
-static bool write_over(const char *path, const uint8_t *bytes, size_t len) {
-    struct stat old;
-    if (stat(path, &old) != 0)
-        return false;
-    if (S_ISCHR(old.st_mode) || S_ISFIFO(old.st_mode))
-        return write_as_it_stands(path, bytes, len);
-    if (!S_ISREG(old.st_mode)) {
-        errno = S_ISDIR(old.st_mode) ? EISDIR : EINVAL;
-        return false;
-    }
-    if (access(path, W_OK) != 0) /* a file that is kept from writing is not replaced either */
-        return false;
+/* The file is replaced where it is, behind any links. One that may not be written is not replaced either. */
+static enum saved replace_file(const char *path, const uint8_t *bytes, size_t len, struct reason *why) {
+    int old = open(path, O_WRONLY | O_CLOEXEC);
+    if (old < 0)
+        return unsaved(why, "it may not be written", errno);
     char *target = realpath(path, NULL);
-    if (target == NULL)
-        return false;
-    return free_after(target, replace_beside(target, &old, bytes, len));
+    enum saved saved = target == NULL ? unsaved(why, "its place can't be found", errno)
+                                      : replace(target, (struct content){bytes, len, old}, why);
+    free(target);
+    (void)close(old); /* nothing was written through it */
+    return saved;
 }
 
-bool save(const char *path, const uint8_t *bytes, size_t len) {
+static enum saved write_as_it_stands(const char *path, const uint8_t *bytes, size_t len, struct reason *why) {
+    int file = open(path, O_WRONLY | O_NOCTTY | O_CLOEXEC);
+    if (file < 0)
+        return unsaved(why, "it can't be opened", errno);
+    if (!close_after(file, write_whole(file, bytes, len)))
+        return unsaved(why, "it can't be written", errno);
+    return SAVED;
+}
+
+static enum saved write_over(const char *path, const struct stat *there, const uint8_t *bytes, size_t len, struct reason *why) {
+    const char *standard = standard_name(there);
+    if (standard != NULL)
+        return unsaved(why, strcmp(standard, "standard output") == 0 ? "it is standard output" : "it is standard error", 0);
+    if (S_ISREG(there->st_mode))
+        return replace_file(path, bytes, len, why);
+    if (S_ISCHR(there->st_mode) || S_ISFIFO(there->st_mode))
+        return write_as_it_stands(path, bytes, len, why);
+    return unsaved(why, S_ISDIR(there->st_mode) ? "it is a folder" : "it is neither a file, a pipe nor a character device", 0);
+}
+
+enum saved save(const char *path, const uint8_t *bytes, size_t len, struct reason *why) {
     struct stat there;
-    bool good;
+    *why = (struct reason){NULL, 0};
     if (strcmp(path, "-") == 0)
-        good = write_whole(STDOUT_FILENO, bytes, len);
-    else if (lstat(path, &there) == 0)
-        good = write_over(path, bytes, len);
-    else
-        good = errno == ENOENT && replace_beside(path, NULL, bytes, len);
-    if (!good) {
-        say_trouble(strcmp(path, "-") == 0 ? "standard output" : path, "not written: %s", strerror(errno));
-    }
-    return good;
+        return write_whole(STDOUT_FILENO, bytes, len) ? SAVED : unsaved(why, "it can't be written", errno);
+    if (path[0] == '\0')
+        return unsaved(why, "its name is empty", 0);
+    if (stat(path, &there) == 0)
+        return write_over(path, &there, bytes, len, why);
+    if (errno != ENOENT)
+        return unsaved(why, "it can't be reached", errno);
+    if (lstat(path, &there) == 0)
+        return unsaved(why, "it is a link to nothing", 0);
+    return replace(path, (struct content){bytes, len, -1}, why);
+}
+
+int tell_saved(const char *path, enum saved saved, struct reason why) {
+    if (saved == SAVED)
+        return DONE;
+    say_reason(strcmp(path, "-") == 0 ? "standard output" : path, saved == UNSYNCED ? "written, but a power cut may undo it" : "not written", why);
+    return TROUBLE;
 }

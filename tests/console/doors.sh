@@ -86,9 +86,9 @@ holds '1 to 8 write no table' [ ! -e never.bin ]
 # 10 to 15 in words, with the step.
 group '11 to 13 name the step'
 for stop in '11:timeout 6' '12:deliver 5 i9' '12:deliver 5 l' '12:deliver 3 r' '13:exit 7'; do
-    steps stop.bin 'timeout 7' "${stop#*:}" 'timeout 5'
-    say "${stop%%:*}" stop.bin "step 2: ${stop#*:}"
-    try "${stop%%:*}: ${stop#*:}" 1 "answer ${stop%%:*} done 1 stations 4"$'\n'"$example" "$said" run table.bin stop.bin
+    steps refused.bin 'timeout 7' "${stop#*:}" 'timeout 5'
+    say "${stop%%:*}" refused.bin "step 2: ${stop#*:}"
+    try "${stop%%:*}: ${stop#*:}" 1 "answer ${stop%%:*} done 1 stations 4"$'\n'"$example" "$said" run table.bin refused.bin
 done
 end
 

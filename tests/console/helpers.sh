@@ -3,6 +3,7 @@
 # A case is what `try` or `holds` expects, or all that is expected between `group NAME` and `end`; it has a name and counts once.
 group=
 group_failed=0
+as=()
 
 # group NAME, end: what is expected between the two is one case
 group() {
@@ -31,11 +32,11 @@ holds() {
     if "${@:2}"; then met "$1"; else unmet "$1"; fi
 }
 
-# ends WANTED WORD..: runs the program with these words; its status must be WANTED, what it prints stands in $out and $err. Its standard
+# ends WANTED WORD..: runs the program with these words, by way of the command $as; its status must be WANTED, what it prints stands in $out and $err. Its standard
 # input is the file $input, or empty. A byte 0 in what it prints is no text and fails.
 ends() {
     local status text=0
-    "$program" "${@:2}" > "$got.out" 2> "$got.err" < "${input:-/dev/null}"
+    "${as[@]}" "$program" "${@:2}" > "$got.out" 2> "$got.err" < "${input:-/dev/null}"
     status=$?
     IFS= read -r -d '' out < "$got.out" && text=1
     IFS= read -r -d '' err < "$got.err" && text=1
@@ -83,7 +84,7 @@ bytes() {
 
 # patch FILE OFFSET HEX..: bytes of a file written over, the check word of the block of OFFSET made right again
 patch() {
-    python3 - "$@" <<'END'
+    "$python" - "$@" <<'END'
 import sys
 name, at, new = sys.argv[1], int(sys.argv[2]), bytes.fromhex("".join(sys.argv[3:]))
 data = bytearray(open(name, "rb").read())

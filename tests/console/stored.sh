@@ -3,9 +3,11 @@
 group 'stored runs: status, listing, words and table; assemble of each dump'
 each stored_run "$stored"/run.*.table
 end
+export ASAN_OPTIONS=detect_leaks=0 # looked for above, and it takes the better part of a short run
 group 'stored tables: the number of the check'
 each stored_check "$stored"/check.*.table
 end
 group 'stored questions: yes, no or the number'
 each_question "$stored/questions"
 end
+unset ASAN_OPTIONS
