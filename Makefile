@@ -1,12 +1,33 @@
-# The station line. `make run` does the main job, `make test` runs every test, `make` builds the archive for C; all need the Rattle kit
-# and a C compiler, the tests also rustc and python3. `make console` builds the console program, `make install PREFIX=/usr/local` installs
-# it with the library.
-.PHONY: all run test soak fuzz bench clean console install
+# The station line. `make help` names what can be made. All of it needs the Rattle kit, bash and a C compiler; the tests also need rustc
+# and python3.
+.PHONY: all help run test soak fuzz bench clean console install uninstall
 
-all: target/staticlib/libstation_line.a
+CFLAGS ?= -O2
+WARNINGS = -Wall -Wextra -Wpedantic -Wconversion -Wshadow
+COMPILE = $(CC) -std=c11 $(WARNINGS) $(CPPFLAGS) $(CFLAGS) -Iinclude
+HEADERS = include/station_line.h include/station_line_layout.h
+VERSION = $(shell sed -n 's/^.define STATION_LINE_VERSION "\(.*\)"$$/\1/p' include/station_line.h)
+SONAME = libstation_line.so.$(firstword $(subst ., ,$(VERSION)))
+
+# The library for C, as an archive and as a shared library: the proved functions, and the words and the version in plain C.
+all: target/lib/libstation_line.a target/lib/libstation_line.so
 
 target/staticlib/libstation_line.a: crates.txt $(shell find crates -name '*.rt' -o -name '*.antt')
 	@rt staticlib station_line
+
+target/lib/%.o: library/%.c $(HEADERS)
+	@mkdir -p $(@D)
+	$(COMPILE) -fPIC -c $< -o $@
+
+target/lib/libstation_line.a: target/staticlib/libstation_line.a target/lib/words.o target/lib/version.o
+	@cp target/staticlib/libstation_line.a $@.new
+	$(AR) rs $@.new target/lib/words.o target/lib/version.o
+	@mv $@.new $@
+
+target/lib/libstation_line.so: target/lib/libstation_line.a
+	$(CC) -shared -Wl,-soname,$(SONAME) -Wl,-z,defs $(LDFLAGS) -Wl,--whole-archive $< -Wl,--no-whole-archive -o $@.$(VERSION)
+	@ln -sf libstation_line.so.$(VERSION) target/lib/$(SONAME)
+	@ln -sf $(SONAME) $@
 
 # Runs the step list of examples/ over its table and prints the listing of document 01.
 run:
@@ -32,28 +53,49 @@ bench:
 clean:
 	@rm -rf target
 
-# The console program.
-CFLAGS ?= -O2
-WARNINGS = -Wall -Wextra -Wpedantic -Wconversion -Wshadow
+# The console program. It is linked to the archive, so it needs no library where it runs.
 CONSOLE = target/console/station-line
 
 console: $(CONSOLE)
 
-$(CONSOLE): $(wildcard console/*.c console/*.h) include/station_line.h target/staticlib/libstation_line.a
+$(CONSOLE): $(wildcard console/*.c console/*.h) $(HEADERS) target/lib/libstation_line.a
 	@mkdir -p $(@D)
-	$(CC) -std=c11 $(WARNINGS) $(CPPFLAGS) $(CFLAGS) -Iinclude console/*.c target/staticlib/libstation_line.a $(LDFLAGS) -o $@
+	$(COMPILE) console/*.c target/lib/libstation_line.a $(LDFLAGS) -o $@
 
-# Header, archive, program, man page and pkg-config file. DESTDIR goes before PREFIX for packagers and is named nowhere in what is installed.
+# Headers, library, program, man pages and pkg-config file. DESTDIR goes before every folder for packagers and is named nowhere in what is
+# installed.
 PREFIX ?= /usr/local
+BINDIR ?= $(PREFIX)/bin
+INCLUDEDIR ?= $(PREFIX)/include
+LIBDIR ?= $(PREFIX)/lib
+MANDIR ?= $(PREFIX)/share/man
 INSTALL ?= install
-VERSION = $(shell sed -n 's/^.define STATION_LINE_VERSION "\(.*\)"$$/\1/p' console/version.h)
-INTO = $(DESTDIR)$(PREFIX)
+# The functions of the library, each of which has a man page that leads to station_line(3).
+OPEN = (
+FUNCTIONS = $(shell sed -n 's/.*[ *]\(station_line_[a-z_0-9]*\)[$(OPEN)].*/\1/p' include/station_line.h | sort -u)
+BIN = $(DESTDIR)$(BINDIR)
+INCLUDE = $(DESTDIR)$(INCLUDEDIR)
+LIB = $(DESTDIR)$(LIBDIR)
+MAN = $(DESTDIR)$(MANDIR)
 
 install: all console
-	$(INSTALL) -d "$(INTO)/bin" "$(INTO)/include" "$(INTO)/lib/pkgconfig" "$(INTO)/share/man/man1"
-	$(INSTALL) -m 755 $(CONSOLE) "$(INTO)/bin/station-line"
-	$(INSTALL) -m 644 include/station_line.h "$(INTO)/include/station_line.h"
-	$(INSTALL) -m 644 target/staticlib/libstation_line.a "$(INTO)/lib/libstation_line.a"
-	$(INSTALL) -m 644 console/station-line.1 "$(INTO)/share/man/man1/station-line.1"
-	sed -e 's|@PREFIX@|$(PREFIX)|' -e 's|@VERSION@|$(VERSION)|' console/station-line.pc.in > "$(INTO)/lib/pkgconfig/station-line.pc"
-	chmod 644 "$(INTO)/lib/pkgconfig/station-line.pc"
+	$(INSTALL) -d "$(BIN)" "$(INCLUDE)" "$(LIB)/pkgconfig" "$(MAN)/man1" "$(MAN)/man3"
+	$(INSTALL) -m 755 $(CONSOLE) "$(BIN)/station-line"
+	$(INSTALL) -m 644 $(HEADERS) "$(INCLUDE)"
+	$(INSTALL) -m 644 target/lib/libstation_line.a "$(LIB)/libstation_line.a"
+	$(INSTALL) -m 755 target/lib/libstation_line.so.$(VERSION) "$(LIB)/libstation_line.so.$(VERSION)"
+	ln -sf libstation_line.so.$(VERSION) "$(LIB)/$(SONAME)"
+	ln -sf $(SONAME) "$(LIB)/libstation_line.so"
+	$(INSTALL) -m 644 console/station-line.1 "$(MAN)/man1/station-line.1"
+	$(INSTALL) -m 644 library/station_line.3 "$(MAN)/man3/station_line.3"
+	for name in $(FUNCTIONS); do echo .so man3/station_line.3 > "$(MAN)/man3/$$name.3" && chmod 644 "$(MAN)/man3/$$name.3" || exit 1; done
+	sed -e 's|@PREFIX@|$(PREFIX)|' -e 's|@INCLUDEDIR@|$(INCLUDEDIR:$(PREFIX)/%=$${prefix}/%)|' \
+	    -e 's|@LIBDIR@|$(LIBDIR:$(PREFIX)/%=$${prefix}/%)|' -e 's|@VERSION@|$(VERSION)|' \
+	    library/station-line.pc.in > "$(LIB)/pkgconfig/station-line.pc"
+	chmod 644 "$(LIB)/pkgconfig/station-line.pc"
+
+uninstall:
+	rm -f "$(BIN)/station-line" "$(INCLUDE)/station_line.h" "$(INCLUDE)/station_line_layout.h"
+	rm -f "$(LIB)/libstation_line.a" "$(LIB)/libstation_line.so" "$(LIB)/$(SONAME)" "$(LIB)/libstation_line.so.$(VERSION)"
+	rm -f "$(LIB)/pkgconfig/station-line.pc" "$(MAN)/man1/station-line.1" "$(MAN)/man3/station_line.3"
+	for name in $(FUNCTIONS); do rm -f "$(MAN)/man3/$$name.3" || exit 1; done

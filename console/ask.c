@@ -16,7 +16,7 @@ static int answer(struct station_line_told told) {
 }
 
 int leave_command(const struct arguments *arguments) {
-    uint8_t table[TABLE_BYTES + 1];
+    uint8_t table[STATION_LINE_TABLE_BYTES + 1];
     size_t len;
     uint32_t station;
     const char *path = arguments->words[0], *number = arguments->words[1];
@@ -36,7 +36,7 @@ int leave_command(const struct arguments *arguments) {
 }
 
 int line_command(const struct arguments *arguments) {
-    uint8_t table[TABLE_BYTES + 1];
+    uint8_t table[STATION_LINE_TABLE_BYTES + 1];
     size_t len;
     const char *path = arguments->words[0];
     int status = open_table(path, table, &len);

@@ -12,8 +12,8 @@
 /* The stations in the order given, each with its line. */
 struct stations {
     size_t count;
-    struct station at[MOST_STATIONS];
-    struct line lines[MOST_STATIONS];
+    struct station_line_block at[STATION_LINE_MOST_STATIONS];
+    struct line lines[STATION_LINE_MOST_STATIONS];
 };
 
 /* A refusal with the line and column where it shows. */
@@ -32,7 +32,7 @@ static size_t first_column(struct line line) {
 static int read_stations(struct text text, struct stations *stations) {
     struct line line;
     for (stations->count = 0; next_line(&text, &line); stations->count++) {
-        if (stations->count == MOST_STATIONS)
+        if (stations->count == STATION_LINE_MOST_STATIONS)
             return refuse_at(STATION_LINE_BLOCKS, &line, first_column(line));
         if (!read_station_line(line, &stations->at[stations->count]))
             return OTHER;
@@ -61,13 +61,13 @@ static int put_out(const char *out, const uint8_t *bytes, size_t len) {
 /* Blocks and messages stay in the order given; the check is the library's. */
 static int assemble_table(struct text text, const char *out) {
     struct stations stations;
-    uint8_t table[TABLE_BYTES];
+    uint8_t table[STATION_LINE_TABLE_BYTES];
     int status = read_stations(text, &stations);
     if (status != DONE)
         return status;
     for (size_t k = 0; k < stations.count; k++)
-        write_block(table + BLOCK_BYTES * k, &stations.at[k]);
-    size_t len = BLOCK_BYTES * stations.count;
+        station_line_write_block(table + STATION_LINE_BLOCK_BYTES * k, &stations.at[k]);
+    size_t len = STATION_LINE_BLOCK_BYTES * stations.count;
     uint32_t number = station_line_check(table, len);
     if (number != STATION_LINE_DONE)
         return refuse_table(text.name, number, &stations);
@@ -75,18 +75,18 @@ static int assemble_table(struct text text, const char *out) {
 }
 
 static int assemble_steps(struct text text, const char *out) {
-    uint8_t steps[STEPS_BYTES];
+    uint8_t steps[STATION_LINE_STEPS_BYTES];
     struct line line;
     size_t count;
     for (count = 0; next_line(&text, &line); count++) {
-        struct step step;
-        if (count == MOST_STEPS)
+        struct station_line_step step;
+        if (count == STATION_LINE_MOST_STEPS)
             return refuse_at(STATION_LINE_LIST_LENGTH, &line, first_column(line));
         if (!read_step_line(line, &step))
             return OTHER;
-        write_step(steps + STEP_BYTES * count, step);
+        station_line_write_step(steps + STATION_LINE_STEP_BYTES * count, step);
     }
-    return put_out(out, steps, STEP_BYTES * count);
+    return put_out(out, steps, STATION_LINE_STEP_BYTES * count);
 }
 
 int assemble_command(const struct arguments *arguments) {

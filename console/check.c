@@ -7,7 +7,7 @@
 #include "station_line.h"
 
 int check_command(const struct arguments *arguments) {
-    uint8_t table[TABLE_BYTES + 1];
+    uint8_t table[STATION_LINE_TABLE_BYTES + 1];
     size_t len;
     struct reason why;
     const char *path = arguments->words[0];

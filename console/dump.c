@@ -7,10 +7,10 @@
 #include "listing.h"
 #include "open_table.h"
 #include "say.h"
-#include "station_line.h"
+#include "station_line_layout.h"
 
 static int dump_table(const char *path) {
-    uint8_t table[TABLE_BYTES + 1];
+    uint8_t table[STATION_LINE_TABLE_BYTES + 1];
     struct walk walk;
     int status = open_accepted(path, table, &walk);
     if (status == DONE)
@@ -20,26 +20,26 @@ static int dump_table(const char *path) {
 
 /* The library says whether a step is malformed: over the empty table it answers 10, or 11 since no station is present. */
 static bool malformed(const uint8_t *step) {
-    return station_line_run(NULL, 0, step, STEP_BYTES, NULL, 0).answer == STATION_LINE_MALFORMED;
+    return station_line_run(NULL, 0, step, STATION_LINE_STEP_BYTES, NULL, 0).answer == STATION_LINE_MALFORMED;
 }
 
 /* Stops at the first malformed step, as a run does. */
 static int dump_steps(const char *path) {
-    uint8_t steps[STEPS_BYTES + 1];
+    uint8_t steps[STATION_LINE_STEPS_BYTES + 1];
     size_t len;
     struct reason why;
     if (!read_steps(path, steps, &len, &why)) {
         say_unreadable(name_of(path), why);
         return TROUBLE;
     }
-    if (len % STEP_BYTES != 0) {
+    if (len % STATION_LINE_STEP_BYTES != 0) {
         say_refusal(name_of(path), STATION_LINE_LIST_LENGTH);
         return OTHER;
     }
-    for (size_t at = 0; at < len; at += STEP_BYTES) {
-        struct step step = read_step(steps + at);
+    for (size_t at = 0; at < len; at += STATION_LINE_STEP_BYTES) {
+        struct station_line_step step = station_line_read_step(steps + at);
         if (malformed(steps + at)) {
-            say_refusal_with(name_of(path), STATION_LINE_MALFORMED, "step %zu: %s", at / STEP_BYTES + 1, malformed_text(step).text);
+            say_refusal_with(name_of(path), STATION_LINE_MALFORMED, "step %zu: %s", at / STATION_LINE_STEP_BYTES + 1, malformed_text(step).text);
             return OTHER;
         }
         (void)puts(step_text(step).text);

@@ -6,6 +6,8 @@
 #include <string.h>
 #include <unistd.h>
 
+#include "station_line.h"
+
 static bool is_standard(const char *path) {
     return strcmp(path, "-") == 0;
 }
@@ -48,11 +50,11 @@ static bool read_file(const char *path, uint8_t *bytes, size_t most, size_t *len
 }
 
 bool read_table(const char *path, uint8_t *table, size_t *len, struct reason *why) {
-    return read_file(path, table, TABLE_BYTES, len, "over 32,768 bytes", why);
+    return read_file(path, table, STATION_LINE_TABLE_BYTES, len, "over 32,768 bytes", why);
 }
 
 bool read_steps(const char *path, uint8_t *steps, size_t *len, struct reason *why) {
-    return read_file(path, steps, STEPS_BYTES, len, "over 49,152 bytes", why);
+    return read_file(path, steps, STATION_LINE_STEPS_BYTES, len, "over 49,152 bytes", why);
 }
 
 bool read_text(const char *path, uint8_t *text, size_t *len, struct reason *why) {

@@ -5,12 +5,12 @@ struct message_text {
     char text[16];
 };
 
-static struct message_text message_text(struct message message) {
+static struct message_text message_text(uint16_t kind, uint32_t number) {
     struct message_text text;
-    if (message.kind == INTRODUCTION)
-        (void)snprintf(text.text, sizeof text.text, "i%u", (unsigned)message.number);
+    if (kind == STATION_LINE_INTRODUCTION)
+        (void)snprintf(text.text, sizeof text.text, "i%u", (unsigned)number);
     else
-        (void)snprintf(text.text, sizeof text.text, "%s", message.kind == REMOVE_LEFT ? "l" : "r");
+        (void)snprintf(text.text, sizeof text.text, "%s", kind == STATION_LINE_REMOVE_LEFT ? "l" : "r");
     return text;
 }
 
@@ -21,30 +21,30 @@ static void print_neighbour(FILE *out, uint32_t neighbour) {
         (void)fprintf(out, " %u", (unsigned)neighbour);
 }
 
-void print_station(FILE *out, const struct station *station) {
-    (void)fprintf(out, "%u", (unsigned)station->number);
-    print_neighbour(out, station->left);
-    print_neighbour(out, station->right);
-    (void)fputs(station->leaving ? " leave" : " stay", out);
-    for (size_t k = 0; k < station->count; k++)
-        (void)fprintf(out, " %s", message_text(station->bag[k]).text);
+void print_station(FILE *out, const struct station_line_block *block) {
+    (void)fprintf(out, "%u", (unsigned)block->station);
+    print_neighbour(out, block->left);
+    print_neighbour(out, block->right);
+    (void)fputs((block->flags & STATION_LINE_LEAVING) != 0 ? " leave" : " stay", out);
+    for (size_t k = 0; k < station_line_held(block); k++)
+        (void)fprintf(out, " %s", message_text(block->messages[k].kind, block->messages[k].number).text);
     (void)fputc('\n', out);
 }
 
-struct step_text step_text(struct step step) {
+struct step_text step_text(struct station_line_step step) {
     struct step_text text;
-    const char *action = step.action == TIMEOUT ? "timeout" : step.action == DELIVER ? "deliver" : "exit";
-    if (step.action == DELIVER)
-        (void)snprintf(text.text, sizeof text.text, "%s %u %s", action, (unsigned)step.station, message_text(step.message).text);
+    const char *action = step.action == STATION_LINE_TIMEOUT ? "timeout" : step.action == STATION_LINE_DELIVER ? "deliver" : "exit";
+    if (step.action == STATION_LINE_DELIVER)
+        (void)snprintf(text.text, sizeof text.text, "%s %u %s", action, (unsigned)step.station, message_text(step.kind, step.number).text);
     else
         (void)snprintf(text.text, sizeof text.text, "%s %u", action, (unsigned)step.station);
     return text;
 }
 
-struct step_text malformed_text(struct step step) {
+struct step_text malformed_text(struct station_line_step step) {
     struct step_text text;
     (void)snprintf(text.text, sizeof text.text, "action %u, kind %u, station %u, number %u", (unsigned)step.action,
-                   (unsigned)step.message.kind, (unsigned)step.station, (unsigned)step.message.number);
+                   (unsigned)step.kind, (unsigned)step.station, (unsigned)step.number);
     return text;
 }
 
@@ -52,15 +52,15 @@ void print_answer(FILE *out, struct station_line_ran ran) {
     (void)fprintf(out, "answer %u done %u stations %u\n", (unsigned)ran.answer, (unsigned)ran.done, (unsigned)ran.stations);
 }
 
-static void print_block(FILE *out, const uint8_t *block) {
-    struct station station;
-    read_block(block, &station);
-    print_station(out, &station);
+static void print_block(FILE *out, const uint8_t *bytes) {
+    struct station_line_block block;
+    station_line_read_block(bytes, &block);
+    print_station(out, &block);
 }
 
 void print_stations(FILE *out, const uint8_t *table, size_t stations) {
     for (size_t k = 0; k < stations; k++)
-        print_block(out, table + BLOCK_BYTES * k);
+        print_block(out, table + STATION_LINE_BLOCK_BYTES * k);
 }
 
 void print_walk(FILE *out, struct walk *walk) {

@@ -5,20 +5,19 @@
 
 #include <stdio.h>
 
-#include "layout.h"
-#include "station_line.h"
+#include "station_line_layout.h"
 #include "walk.h"
 
 /* "number, left, right (`-` for none), `stay` or `leave`, then messages as `i` with the number, `l` or `r`", in stored order; a
  * line. */
-void print_station(FILE *out, const struct station *station);
+void print_station(FILE *out, const struct station_line_block *block);
 
 /* The text of a step: `timeout 5`, `deliver 5 i7`, `deliver 5 l`, `deliver 5 r` or `exit 5`, or the four fields of a malformed one. */
 struct step_text {
     char text[80];
 };
-struct step_text step_text(struct step step);
-struct step_text malformed_text(struct step step);
+struct step_text step_text(struct station_line_step step);
+struct step_text malformed_text(struct station_line_step step);
 
 /* The first line of the listing. */
 void print_answer(FILE *out, struct station_line_ran ran);

@@ -10,7 +10,7 @@
 #include "help.h"
 #include "options.h"
 #include "say.h"
-#include "version.h"
+#include "station_line.h"
 
 /* `help`, `help COMMAND`, `COMMAND --help`; the command is the first argument that is no option. */
 static int help(int argc, char **argv) {

@@ -1,9 +1,8 @@
-/* A table read from a file, for the commands that need one, into a room of TABLE_BYTES + 1: what refuses it is said, and the exit
+/* A table read from a file, for the commands that need one, into a room of STATION_LINE_TABLE_BYTES + 1: what refuses it is said, and the exit
  * status given. */
 #ifndef OPEN_TABLE_H
 #define OPEN_TABLE_H
 
-#include "layout.h"
 #include "walk.h"
 
 /* Any bytes. */

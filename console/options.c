@@ -42,16 +42,18 @@ static size_t find_option(const struct command *command, const char *word, const
 static int take_option(const struct command *command, int argc, char **argv, struct arguments *arguments) {
     const char *value, *wrong = NULL;
     size_t k = find_option(command, argv[0], &value);
-    bool takes = k < OPTIONS && forms[k].value != NULL, apart = takes && value == NULL;
-    if (apart)
+    bool takes = k < OPTIONS && forms[k].value != NULL, apart = false;
+    if (takes && value == NULL) {
+        apart = true;
         value = argc > 1 ? argv[1] : "";
+    }
     if (k == OPTIONS)
         wrong = "no such option of this command";
     else if (arguments->options[k] != NULL)
         wrong = "given twice";
     else if (value != NULL && !takes)
         wrong = "takes no value";
-    else if (takes && value[0] == '\0')
+    else if (takes && (value == NULL || value[0] == '\0'))
         wrong = forms[k].value;
     if (wrong != NULL) {
         (void)say_wrong_use(command->name, argv[0], "%s", wrong);

@@ -7,12 +7,12 @@
 #include "listing.h"
 #include "save.h"
 #include "say.h"
-#include "station_line.h"
+#include "station_line_layout.h"
 
 /* The files of a run, and what they hold. */
 struct input {
     const char *table_path, *steps_path;
-    uint8_t table[TABLE_BYTES + 1], steps[STEPS_BYTES + 1];
+    uint8_t table[STATION_LINE_TABLE_BYTES + 1], steps[STATION_LINE_STEPS_BYTES + 1];
     size_t table_len, steps_len;
 };
 
@@ -42,7 +42,7 @@ static int say_end(struct station_line_ran ran, const struct input *input) {
     if (ran.answer == STATION_LINE_DONE)
         return DONE;
     if (is_written(ran.answer)) {
-        struct step step = read_step(input->steps + STEP_BYTES * ran.done);
+        struct station_line_step step = station_line_read_step(input->steps + STATION_LINE_STEP_BYTES * ran.done);
         struct step_text text = ran.answer == STATION_LINE_MALFORMED ? malformed_text(step) : step_text(step);
         say_refusal_with(steps, ran.answer, "step %zu: %s", (size_t)ran.done + 1, text.text);
     } else {
@@ -63,11 +63,11 @@ static bool is_saved(struct output output, uint32_t number) {
 
 /* The table is safe in its file before the listing says that the run was done. Where it can't be written there is no listing. */
 static int run(const struct input *input, struct output output) {
-    uint8_t room[TABLE_BYTES];
+    uint8_t room[STATION_LINE_TABLE_BYTES];
     struct reason why = {NULL, 0};
     struct station_line_ran ran =
         station_line_run(input->table, input->table_len, input->steps, input->steps_len, room, input->table_len);
-    enum saved saved = is_saved(output, ran.answer) ? save(output.path, room, BLOCK_BYTES * ran.stations, &why) : SAVED;
+    enum saved saved = is_saved(output, ran.answer) ? save(output.path, room, STATION_LINE_BLOCK_BYTES * ran.stations, &why) : SAVED;
     if (saved == UNSAVED)
         return tell_saved(output.path, saved, why);
     print_answer(stdout, ran);

@@ -6,7 +6,7 @@
 #include <string.h>
 
 #include "escape.h"
-#include "words.h"
+#include "station_line.h"
 
 /* Standard error is the last resort, so what a print to it returns is not looked at. */
 
@@ -36,7 +36,7 @@ static void begin_at(const char *name, size_t line, size_t column) {
 }
 
 static void put_number(uint32_t number) {
-    (void)fprintf(stderr, "%u: %s", (unsigned)number, words_of(number));
+    (void)fprintf(stderr, "%u: %s", (unsigned)number, station_line_words(number));
 }
 
 static void put_reason(struct reason why) {

@@ -7,7 +7,7 @@
 #include "say.h"
 
 int view_command(const struct arguments *arguments) {
-    uint8_t table[TABLE_BYTES + 1];
+    uint8_t table[STATION_LINE_TABLE_BYTES + 1];
     struct walk walk;
     int status = open_accepted(arguments->words[0], table, &walk);
     if (status == DONE) {

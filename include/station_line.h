@@ -7,7 +7,8 @@
  * does not overlap `table` or `steps`.
  *
  * A table is a run of 512-byte blocks, one per station, at most 64 of them. A step list is a run of 12-byte steps, at most 4,096
- * of them. Integers are little-endian.
+ * of them. Integers are little-endian. docs/FORMAT.md has every byte; station_line_layout.h takes a block or a step apart and puts it
+ * together.
  */
 #ifndef STATION_LINE_H
 #define STATION_LINE_H
@@ -18,6 +19,21 @@
 #ifdef __cplusplus
 extern "C" {
 #endif
+
+/* The version of this header; station_line_version() has that of the library that is linked. */
+#define STATION_LINE_VERSION_MAJOR 1
+#define STATION_LINE_VERSION_MINOR 1
+#define STATION_LINE_VERSION "1.1"
+
+/* Sizes. */
+#define STATION_LINE_BLOCK_BYTES 512
+#define STATION_LINE_STEP_BYTES 12
+#define STATION_LINE_MOST_STATIONS 64
+#define STATION_LINE_MOST_MESSAGES 32 /* in one bag */
+#define STATION_LINE_MOST_STEPS 4096
+#define STATION_LINE_MOST_NUMBER 999999 /* of a station; the least is 1 */
+#define STATION_LINE_TABLE_BYTES 32768 /* the longest table, and room for what a run writes of any */
+#define STATION_LINE_STEPS_BYTES 49152 /* the longest step list */
 
 /* The numbers. Where several apply, the smallest is given, whatever the order of the blocks. */
 enum {
@@ -81,6 +97,15 @@ struct station_line_told station_line_in_line(const uint8_t *table, size_t table
  * of a table that is not accepted, there is no block: offset is 0 and next is that position, so the end comes again however often it
  * is asked. Each call checks the table. */
 struct station_line_viewed station_line_view(const uint8_t *table, size_t table_len, size_t position);
+
+/* Beside the functions above, which are proved, two of plain C. */
+
+/* The words for a number, as for 3 "a check fails"; they stay as long as the program runs. 16, which a program may give for a file that
+ * can't be read, has words too; a number without a meaning has words that say so. */
+const char *station_line_words(uint32_t number);
+
+/* The version of the library, as "1.1". */
+const char *station_line_version(void);
 
 #ifdef __cplusplus
 }

@@ -107,7 +107,7 @@ for c in check run leave line view draw assemble dump; do
     holds "$c" eval 'ends 0 help "$c" && [[ $out == "usage: station-line $c "* ]] && [ -z "$err" ]'
 done
 end
-version="station-line $(sed -n 's/^.define STATION_LINE_VERSION "\(.*\)"$/\1/p' "$root/console/version.h")"$'\n'
+version="station-line $(sed -n 's/^.define STATION_LINE_VERSION "\(.*\)"$/\1/p' "$root/include/station_line.h")"$'\n'
 group '-V and --version'
 try --version 0 "$version" '' --version
 try -V 0 "$version" '' -V

@@ -1,4 +1,5 @@
-#include "words.h"
+/* The words for the numbers, as the refusal table has them. */
+#include "station_line.h"
 
 static const char *const words[] = {
     "no refusal",
@@ -20,6 +21,6 @@ static const char *const words[] = {
     "a file can't be read, or is over 32,768 (table) or 49,152 (steps) bytes",
 };
 
-const char *words_of(uint32_t number) {
-    return number < sizeof words / sizeof words[0] ? words[number] : "a number that this program doesn't know";
+const char *station_line_words(uint32_t number) {
+    return number < sizeof words / sizeof words[0] ? words[number] : "a number without a meaning";
 }

@@ -1,0 +1,71 @@
+#!/usr/bin/env python3
+"""The station line's library from Python, by ctypes alone: line.py [LIBRARY]
+
+Makes the table of the README's example and its one step, runs it, prints the listing, and asks whether station 9 may leave. LIBRARY is
+the shared library, libstation_line.so.1 if not given; docs/FORMAT.md has the bytes.
+"""
+import ctypes
+import struct
+import sys
+
+BLOCK, STEP = 512, 12
+KINDS = {"i": 1, "l": 2, "r": 3}
+TIMEOUT, DELIVER, EXIT = 1, 2, 3
+
+
+class Ran(ctypes.Structure):
+    _fields_ = [("answer", ctypes.c_uint32), ("done", ctypes.c_uint32), ("stations", ctypes.c_uint32)]
+
+
+class Told(ctypes.Structure):
+    _fields_ = [("answer", ctypes.c_uint32), ("yes", ctypes.c_uint32)]
+
+
+def load(name):
+    library = ctypes.CDLL(name)
+    size, octets, number = ctypes.c_size_t, ctypes.c_char_p, ctypes.c_uint32
+    library.station_line_version.restype = octets
+    library.station_line_words.argtypes, library.station_line_words.restype = [number], octets
+    library.station_line_run.argtypes, library.station_line_run.restype = [octets, size, octets, size, octets, size], Ran
+    library.station_line_may_leave.argtypes, library.station_line_may_leave.restype = [octets, size, number], Told
+    return library
+
+
+def block(station, left=0, right=0, leaving=False, messages=()):
+    """The 512 bytes of a station; messages such as "i7", "l", "r"."""
+    made = struct.pack("<HHIIIHH", 1, leaving, station, left, right, len(messages), 0)
+    made += b"".join(struct.pack("<HHI", KINDS[m[0]], 0, int(m[1:] or 0)) for m in messages)
+    made = made.ljust(BLOCK - 2, b"\0")
+    return made + struct.pack("<H", (65535 - sum(struct.unpack("<255H", made))) % 65536)
+
+
+def step(action, station, message="-"):
+    return struct.pack("<HHII", action, KINDS.get(message[0], 0), station, int(message[1:] or 0))
+
+
+def line(bytes_):
+    """The listing's line of a block."""
+    _, flags, station, left, right, count, _ = struct.unpack_from("<HHIIIHH", bytes_)
+    words = [str(station), str(left or "-"), str(right or "-"), "leave" if flags & 1 else "stay"]
+    for k in range(count):
+        kind, _, number = struct.unpack_from("<HHI", bytes_, 20 + 8 * k)
+        words.append("%s%s" % ("?ilr"[kind], number or ""))
+    return " ".join(words)
+
+
+def main():
+    library = load(sys.argv[1] if len(sys.argv) > 1 else "libstation_line.so.1")
+    table = block(3, right=5) + block(5, left=3, right=9, messages=["i7"]) + block(7) + block(9, left=5)
+    steps = step(DELIVER, 5, "i7")
+    room = ctypes.create_string_buffer(len(table))
+    ran = library.station_line_run(table, len(table), steps, len(steps), room, len(room))
+    print("answer", ran.answer, "done", ran.done, "stations", ran.stations)
+    if ran.answer != 0:
+        sys.exit(library.station_line_words(ran.answer).decode())
+    for k in range(ran.stations):
+        print(line(room.raw[BLOCK * k:BLOCK * (k + 1)]))
+    told = library.station_line_may_leave(room.raw, BLOCK * ran.stations, 9)
+    print("may 9 leave?", "yes" if told.yes else "no")
+
+
+main()
