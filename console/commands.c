@@ -3,8 +3,11 @@
 #include <string.h>
 
 const struct command commands[] = {
-    {"check", {"TABLE"}, {0}, check_command, "check TABLE", "the number of the check, 0 for accepted",
-     "Prints the number of the check: 0 for a table that is accepted, else 1 to 7.\n"},
+    {"check", {"TABLE"}, {[ALL] = true}, check_command, "check TABLE [--all]", "the number of the check, 0 for accepted",
+     "Prints the number of the check: 0 for a table that is accepted, else 1 to 7. Standard error names the first block, station\n"
+     "and field that stand behind it.\n"
+     "\n"
+     "  --all    name all of them, those of higher numbers too\n"},
     {"run", {"TABLE", "STEPS"}, {[OUTPUT] = true, [ALL_OR_NOTHING] = true}, run_command, "run TABLE STEPS [-o NEW]", "run a step list, print the listing, write the new table",
      "Runs the step list over the table and prints the listing. The run stops at the first refused step.\n"
      "\n"
@@ -25,8 +28,10 @@ const struct command commands[] = {
      "and 'exit 5'. Empty lines and lines that begin with '#' are passed over.\n"
      "\n"
      "  -o, --output OUT    write to OUT; without it, or where it is '-', to standard output\n"},
-    {"dump", {"table|steps", "FILE"}, {0}, dump_command, "dump table|steps FILE", "a table or step list back into lines",
-     "Prints the lines that 'assemble' turns back into the same bytes.\n"},
+    {"dump", {"table|steps", "FILE"}, {[DAMAGED] = true}, dump_command, "dump table|steps FILE [--damaged]", "a table or step list back into lines",
+     "Prints the lines that 'assemble' turns back into the same bytes.\n"
+     "\n"
+     "  --damaged    of any bytes, what can be read of a table, with offsets and faults behind '#'\n"},
     {0},
 };
 

@@ -3,6 +3,7 @@
 #include <string.h>
 
 #include "commands.h"
+#include "damaged.h"
 #include "files.h"
 #include "listing.h"
 #include "open_table.h"
@@ -49,9 +50,10 @@ static int dump_steps(const char *path) {
 
 int dump_command(const struct arguments *arguments) {
     const char *what = arguments->words[0], *path = arguments->words[1];
-    if (strcmp(what, "table") == 0)
-        return dump_table(path);
-    if (strcmp(what, "steps") == 0)
-        return dump_steps(path);
-    return say_wrong_use("dump", what, "'table' or 'steps' is expected");
+    bool table = strcmp(what, "table") == 0, damaged = arguments->options[DAMAGED] != NULL;
+    if (!table && strcmp(what, "steps") != 0)
+        return say_wrong_use("dump", what, "'table' or 'steps' is expected");
+    if (!table && damaged)
+        return say_wrong_use("dump", "--damaged", "goes with 'table'");
+    return !table ? dump_steps(path) : damaged ? dump_damaged(path) : dump_table(path);
 }

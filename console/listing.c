@@ -1,16 +1,17 @@
 #include "listing.h"
 
-/* The longest is `deliver`, a station of 32 bits, and `i` with a number of 32 bits. */
 struct message_text {
-    char text[16];
+    char text[24];
 };
 
 static struct message_text message_text(uint16_t kind, uint32_t number) {
     struct message_text text;
     if (kind == STATION_LINE_INTRODUCTION)
         (void)snprintf(text.text, sizeof text.text, "i%u", (unsigned)number);
-    else
+    else if (kind == STATION_LINE_REMOVE_LEFT || kind == STATION_LINE_REMOVE_RIGHT)
         (void)snprintf(text.text, sizeof text.text, "%s", kind == STATION_LINE_REMOVE_LEFT ? "l" : "r");
+    else /* in no accepted table */
+        (void)snprintf(text.text, sizeof text.text, "?%u:%u", (unsigned)kind, (unsigned)number);
     return text;
 }
 

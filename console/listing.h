@@ -9,7 +9,7 @@
 #include "walk.h"
 
 /* "number, left, right (`-` for none), `stay` or `leave`, then messages as `i` with the number, `l` or `r`", in stored order; a
- * line. */
+ * line. A message of another kind, which no accepted table has, is `?` with kind and number. */
 void print_station(FILE *out, const struct station_line_block *block);
 
 /* The text of a step: `timeout 5`, `deliver 5 i7`, `deliver 5 l`, `deliver 5 r` or `exit 5`, or the four fields of a malformed one. */

@@ -11,6 +11,8 @@ static const struct form {
 } forms[OPTIONS] = {
     [OUTPUT] = {"-o", "--output", "a file's name is missing"},
     [ALL_OR_NOTHING] = {NULL, "--all-or-nothing", NULL},
+    [ALL] = {NULL, "--all", NULL},
+    [DAMAGED] = {NULL, "--damaged", NULL},
 };
 
 static bool begins(const char *word, const char *start) {
