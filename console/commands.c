@@ -8,11 +8,13 @@ const struct command commands[] = {
      "and field that stand behind it.\n"
      "\n"
      "  --all    name all of them, those of higher numbers too\n"},
-    {"run", {"TABLE", "STEPS"}, {[OUTPUT] = true, [ALL_OR_NOTHING] = true}, run_command, "run TABLE STEPS [-o NEW]", "run a step list, print the listing, write the new table",
+    {"run", {"TABLE", "STEPS"}, {[OUTPUT] = true, [ALL_OR_NOTHING] = true, [TRACE] = true}, run_command, "run TABLE STEPS [-o NEW]", "run a step list, print the listing, write the new table",
      "Runs the step list over the table and prints the listing. The run stops at the first refused step.\n"
      "\n"
      "  -o, --output NEW    write the new table to NEW, at answer 0 and at 10 to 15, where the run stopped\n"
-     "  --all-or-nothing    write it at answer 0 only\n"},
+     "  --all-or-nothing    write it at answer 0 only\n"
+     "  --trace             before the listing, print a line for each step: what it changed and what it sent to whom, or the\n"
+     "                      refusal and what was missing\n"},
     {"leave", {"TABLE", "NUMBER"}, {0}, leave_command, "leave TABLE NUMBER", "may the station leave? yes or no",
      "Prints yes where the station's bag is empty and no other station has it as a neighbour or as an introduction in its bag,\n"
      "else no. The exit status is 0 for yes and 1 for no.\n"},

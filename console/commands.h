@@ -5,7 +5,7 @@
 #include <stdbool.h>
 #include <stddef.h>
 
-enum option { OUTPUT, ALL_OR_NOTHING, ALL, DAMAGED, OPTIONS };
+enum option { OUTPUT, ALL_OR_NOTHING, ALL, DAMAGED, TRACE, OPTIONS };
 
 #define MOST_WORDS ((size_t)2)
 

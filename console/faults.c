@@ -25,7 +25,7 @@ static bool in_range(uint32_t number) {
 }
 
 /* The first block before `end` that has this station's number. */
-static bool find_station(const struct search *search, size_t end, uint32_t station, size_t *block) {
+static bool find_number(const struct search *search, size_t end, uint32_t station, size_t *block) {
     for (size_t k = 0; k < end; k++)
         if (station_line_get32(search->table + STATION_LINE_BLOCK_BYTES * k + 4) == station) {
             *block = k;
@@ -36,7 +36,7 @@ static bool find_station(const struct search *search, size_t end, uint32_t stati
 
 static bool is_unknown(const struct search *search, uint32_t station) {
     size_t block;
-    return in_range(station) && !find_station(search, search->len / STATION_LINE_BLOCK_BYTES, station, &block);
+    return in_range(station) && !find_number(search, search->len / STATION_LINE_BLOCK_BYTES, station, &block);
 }
 
 /* A place is found: the field, its offset in the block, and what is the matter with it. */
@@ -128,7 +128,7 @@ static void find_sides(const struct search *search) {
 
 static void find_twin(const struct search *search) {
     size_t block;
-    if (find_station(search, search->block, search->fields.station, &block))
+    if (find_number(search, search->block, search->fields.station, &block))
         found(search, "station number", 4, "is %u, as in block %zu", (unsigned)search->fields.station, block + 1);
 }
 

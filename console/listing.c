@@ -1,10 +1,6 @@
 #include "listing.h"
 
-struct message_text {
-    char text[24];
-};
-
-static struct message_text message_text(uint16_t kind, uint32_t number) {
+struct message_text message_text(uint16_t kind, uint32_t number) {
     struct message_text text;
     if (kind == STATION_LINE_INTRODUCTION)
         (void)snprintf(text.text, sizeof text.text, "i%u", (unsigned)number);

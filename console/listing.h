@@ -12,6 +12,12 @@
  * line. A message of another kind, which no accepted table has, is `?` with kind and number. */
 void print_station(FILE *out, const struct station_line_block *block);
 
+/* The text of a message. */
+struct message_text {
+    char text[24];
+};
+struct message_text message_text(uint16_t kind, uint32_t number);
+
 /* The text of a step: `timeout 5`, `deliver 5 i7`, `deliver 5 l`, `deliver 5 r` or `exit 5`, or the four fields of a malformed one. */
 struct step_text {
     char text[80];

@@ -13,6 +13,7 @@ static const struct form {
     [ALL_OR_NOTHING] = {NULL, "--all-or-nothing", NULL},
     [ALL] = {NULL, "--all", NULL},
     [DAMAGED] = {NULL, "--damaged", NULL},
+    [TRACE] = {NULL, "--trace", NULL},
 };
 
 static bool begins(const char *word, const char *start) {

@@ -8,6 +8,7 @@
 #include "save.h"
 #include "say.h"
 #include "station_line_layout.h"
+#include "trace.h"
 
 /* The files of a run, and what they hold. */
 struct input {
@@ -51,10 +52,10 @@ static int say_end(struct station_line_ran ran, const struct input *input) {
     return OTHER;
 }
 
-/* Where the new table goes, null for nowhere, and whether only a run that does every step is to write it. */
+/* Where the new table goes, null for nowhere, whether only a run that does every step is to write it, and whether each step is told. */
 struct output {
     const char *path;
-    bool all_or_nothing;
+    bool all_or_nothing, trace;
 };
 
 static bool is_saved(struct output output, uint32_t number) {
@@ -70,6 +71,8 @@ static int run(const struct input *input, struct output output) {
     enum saved saved = is_saved(output, ran.answer) ? save(output.path, room, STATION_LINE_BLOCK_BYTES * ran.stations, &why) : SAVED;
     if (saved == UNSAVED)
         return tell_saved(output.path, saved, why);
+    if (output.trace && is_written(ran.answer))
+        print_trace(stdout, input->table, input->table_len, input->steps, input->steps_len);
     print_answer(stdout, ran);
     if (is_written(ran.answer))
         print_stations(stdout, room, ran.stations);
@@ -80,7 +83,7 @@ static int run(const struct input *input, struct output output) {
 }
 
 int run_command(const struct arguments *arguments) {
-    struct output output = {arguments->options[OUTPUT], arguments->options[ALL_OR_NOTHING] != NULL};
+    struct output output = {arguments->options[OUTPUT], arguments->options[ALL_OR_NOTHING] != NULL, arguments->options[TRACE] != NULL};
     struct input input;
     input.table_path = arguments->words[0];
     input.steps_path = arguments->words[1];
