@@ -5,32 +5,21 @@ use mathlib.Core.Bool.{Bool}
 use mathlib.Core.List.{List}
 use borrow.Author.Tests.{ne-eqb}
 use Rattle.line.specs.InLine.{inLine}
-use Rattle.line.specs.Step.{find}
 use Rattle.table.specs.declared.Inspected.{Inspected}
 use Rattle.table.specs.Blocks.{lineOf}
 use Rattle.table.specs.Index.{Inspects}
 use Rattle.table.proofs.Lines.{inspected-clean}
 use Rattle.questions.specs.declared.Told.{Told}
 use Rattle.questions.specs.declared.Told.the-variants.{Refused}
-use Rattle.questions.specs.Told.{yesNo, asked, leaveAt, mayLeave, isInLine}
+use Rattle.questions.specs.Told.{yesNo, asked, isInLine}
 use Rattle.questions.proofs.Meanings.{answered}
 
 module _ {t : List ℕ} {r : Inspected} (found : Inspects t r) where
-  asked-refused : (x : Told) → (r .fault ≡ 0 → ⊥) → Refused (r .fault) ≡ asked t x
+  pub asked-refused : (x : Told) → (r .fault ≡ 0 → ⊥) → Refused (r .fault) ≡ asked t x
   asked-refused x h = let e = found .fault-is in rw (← e, ne-eqb (r .fault) 0 h)
 
-  asked-accepted : (x : Told) → r .fault ≡ 0 → x ≡ asked t x
+  pub asked-accepted : (x : Told) → r .fault ≡ 0 → x ≡ asked t x
   asked-accepted x h = sym (answered t x (inspected-clean found h))
-
-  -- whether station q may leave
-  module _ (q : ℕ) where
-    pub leave-refused : (r .fault ≡ 0 → ⊥) → Refused (r .fault) ≡ mayLeave t q
-    unfolding mayLeave
-    leave-refused h = asked-refused (leaveAt (lineOf t) (find q (lineOf t))) h
-
-    pub leave-accepted : r .fault ≡ 0 → {x : Told} → x ≡ leaveAt (lineOf t) (find q (lineOf t)) → x ≡ mayLeave t q
-    unfolding mayLeave
-    leave-accepted h e = e ∙ asked-accepted (leaveAt (lineOf t) (find q (lineOf t))) h
 
   -- whether the table is in line
   pub line-refused : (r .fault ≡ 0 → ⊥) → Refused (r .fault) ≡ isInLine t

@@ -1,3 +1,3 @@
--- What a reader must believe of the questions, in reading order.
+-- What a reader must believe of a question's answer and of the question whether a table is in line, in reading order.
 pub mod Told
 pub mod Claims

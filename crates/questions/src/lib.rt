@@ -1,13 +1,8 @@
-// The questions (document 01, "What the engine holds" and "The numbers a crew may see"): "A question checks the table first (1 to 7)",
-// and "At 0 a question returns yes or no as well".
-pub mod holders;
-
+// What a question answers, and the question whether a table is in line (document 01, "What the engine holds" and "The numbers a crew may
+// see"): "A question checks the table first (1 to 7)", and "At 0 a question returns yes or no as well".
 use block::station_of;
-use holders::first_holder;
-use index::lookup;
 use line::Neighbour;
 use line::Station;
-use octets::word_at;
 use table::block_at;
 use table::inspect;
 use table::number_at;
@@ -15,11 +10,10 @@ ghost use mathlib.Core.Path.{_≡_};
 ghost use mathlib.Core.Bool.{_&&_};
 ghost use lib.ListN.{drop};
 ghost use Rattle.line.specs.InLine.{isSame, first, inLine};
-ghost use Rattle.line.specs.Step.{find};
 ghost use Rattle.table.specs.Blocks.{lineOf};
 ghost use Rattle.table.specs.Fault.{faultOf};
 ghost use Rattle.table.specs.Index.{indexOf};
-ghost use Rattle.questions.specs.Told.{toldNumber, toldYes, yesNo, leaveAt, mayLeave, isInLine};
+ghost use Rattle.questions.specs.Told.{toldNumber, toldYes, yesNo, isInLine};
 
 // What a question returns: the number of a refusal, or at 0 yes or no.
 pub enum Told {
@@ -57,39 +51,6 @@ fn yes_no(holds: bool) -> Told
     ensures { λ r. ⌜ r ≡ yesNo holds ⌝ }
 {
     if holds { Told::Yes } else { Told::No }
-}
-
-// Of an accepted table and its index: "the leave question then looks for the station (11)", and NIDEC decides, "leaving mark or not".
-fn leave_of(table: &[u8], index: &[u64], station: u32) -> Told
-    requires { ⌜ faultOf (now table) ≡ 0 ⌝ }
-    requires { ⌜ now index ≡ indexOf (now table) ⌝ }
-    ensures { λ r. ⌜ r ≡ leaveAt (lineOf (now (table .entry))) (find station (lineOf (now (table .entry)))) ⌝ }
-{
-    let i = lookup(index, station);
-    if index.len() <= i {
-        return Told::Refused(11);
-    }
-    let own = (index[i] % 64) as usize;
-    if word_at(block_at(table, own), 16) != 0 {
-        return Told::No;
-    }
-    if first_holder(table, index, station) < index.len() {
-        return Told::No;
-    }
-    Told::Yes
-}
-
-// Whether a station may leave.
-pub fn may_leave(table: &[u8], station: u32) -> Told
-    ensures { λ r. ⌜ r ≡ mayLeave (now (table .entry)) station ⌝ }
-{
-    let inspected = inspect(table);
-    if inspected.fault != 0 {
-        return Told::Refused(inspected.fault);
-    }
-    let index = inspected.index;
-    let n = table.len() / 512;
-    leave_of(table, &index[..n], station)
 }
 
 // Whether two neighbours are the same: both none, or one station.

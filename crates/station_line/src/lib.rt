@@ -2,16 +2,17 @@
 // numbers), with the check and the view beside them. Each function hands its call on and repeats the equality of what it calls. A slice
 // is a pointer and a length in C; the view has offsets in the place of references.
 use engine::run;
+use leave::may_leave;
 use questions::Told;
 use questions::in_line;
-use questions::may_leave;
 use table::check;
 use view::Looked;
 use view::look;
 ghost use mathlib.Core.Path.{_≡_};
 ghost use Rattle.table.specs.Fault.{faultOf};
 ghost use Rattle.engine.specs.Ran.{outcome};
-ghost use Rattle.questions.specs.Told.{mayLeave, isInLine};
+ghost use Rattle.leave.specs.Leave.{mayLeave};
+ghost use Rattle.questions.specs.Told.{isInLine};
 ghost use Rattle.view.specs.View.{viewed};
 ghost use Rattle.station_line.specs.Interface.{ranAs, toldAs, viewedAs};
 

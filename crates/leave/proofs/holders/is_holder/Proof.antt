@@ -1,7 +1,7 @@
 use borrow.Author.Needs.{needs}
-use Rattle.questions.proofs.Holding.{block-itself, block-left, block-right, block-introduces}
-use Rattle.questions.proofs.holders.is_holder.Statement.{statement}
-use Rattle.questions.proofs.holders.is_holder.Tie as tie
+use Rattle.leave.proofs.Holding.{block-itself, block-left, block-right, block-introduces}
+use Rattle.leave.proofs.holders.is_holder.Statement.{statement}
+use Rattle.leave.proofs.holders.is_holder.Tie as tie
 
 returns : tie.Need-returns
 returns c = search block-itself

@@ -1,7 +1,7 @@
 use borrow.Author.Needs.{needs}
-use Rattle.questions.proofs.Holding.{is-introduced, is-remove-left, is-remove-right}
-use Rattle.questions.proofs.holders.is_introduction.Statement.{statement}
-use Rattle.questions.proofs.holders.is_introduction.Tie as tie
+use Rattle.leave.proofs.Holding.{is-introduced, is-remove-left, is-remove-right}
+use Rattle.leave.proofs.holders.is_introduction.Statement.{statement}
+use Rattle.leave.proofs.holders.is_introduction.Tie as tie
 
 returns : tie.Need-returns
 returns c = search is-introduced

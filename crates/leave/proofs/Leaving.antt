@@ -25,8 +25,9 @@ use Rattle.table.proofs.Accepting.{table-accepted}
 use Rattle.table.proofs.Lines.{ordered-count, line-long, numbers-listed, line-at}
 use Rattle.moves.specs.Holders.{isHolder}
 use Rattle.moves.proofs.Holding.{nidec-holders, empty-counted}
 use Rattle.questions.specs.declared.Told.the-variants.{Refused, Yes, No}
-use Rattle.questions.specs.Told.{yesNo, leaveAt}
+use Rattle.questions.specs.Told.{yesNo}
+use Rattle.leave.specs.Leave.{leaveAt}
 
 -- Station q is looked up in the index of an accepted table.
 module _ (t index : List ℕ) (clean : faultOf t ≡ 0) (listed : index ≡ indexOf t) (q : ℕ) {i : ℕ} (at : i ≡ firstAt (eqb q) (numbersIn index)) where

@@ -2,9 +2,9 @@ use borrow.Author.Needs.{needs}
 use Prim.Native.Nat.{_-_}
 use lib.ListN.{length}
 use Rattle.table.proofs.Lines.{slot-within, slot-count}
-use Rattle.questions.proofs.Holding.{NotBefore, not-before-first, none-next, holder-found, none-holds}
-use Rattle.questions.proofs.holders.first_holder.Statement.{statement}
-use Rattle.questions.proofs.holders.first_holder.Tie as tie
+use Rattle.leave.proofs.Holding.{NotBefore, not-before-first, none-next, holder-found, none-holds}
+use Rattle.leave.proofs.holders.first_holder.Statement.{statement}
+use Rattle.leave.proofs.holders.first_holder.Tie as tie
 
 abbrev Inv-loop : tie.InvT-loop
 Inv-loop table index p j₀ j = NotBefore p table j

@@ -1,8 +1,8 @@
 use borrow.Author.Needs.{needs}
 use Rattle.table.proofs.Lines.{numbers-rise, slot-within}
-use Rattle.questions.proofs.Leaving.{leave-absent, leave-unread, leave-held, leave-free}
-use Rattle.questions.proofs.leave_of.Statement.{statement}
-use Rattle.questions.proofs.leave_of.Tie as tie
+use Rattle.leave.proofs.Leaving.{leave-absent, leave-unread, leave-held, leave-free}
+use Rattle.leave.proofs.leave_of.Statement.{statement}
+use Rattle.leave.proofs.leave_of.Tie as tie
 
 lookup-requires : tie.Need-lookup-requires
 lookup-requires c κs = search numbers-rise

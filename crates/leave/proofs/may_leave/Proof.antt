@@ -1,8 +1,8 @@
 use borrow.Author.Needs.{needs}
 use Rattle.table.proofs.Lines.{inspected-long, inspected-clean, inspected-index, inspected-size}
-use Rattle.questions.proofs.Asking.{leave-refused, leave-accepted}
-use Rattle.questions.proofs.may_leave.Statement.{statement}
-use Rattle.questions.proofs.may_leave.Tie as tie
+use Rattle.leave.proofs.Asking.{leave-refused, leave-accepted}
+use Rattle.leave.proofs.may_leave.Statement.{statement}
+use Rattle.leave.proofs.may_leave.Tie as tie
 
 returns : tie.Need-returns
 returns c = search leave-refused

@@ -1,8 +1,8 @@
 use borrow.Author.Needs.{needs}
 use Prim.Native.Nat.{_-_}
-use Rattle.questions.proofs.Holding.{PlacesTo, places-none, places-next, places-found, places-all}
-use Rattle.questions.proofs.holders.introduces.Statement.{statement}
-use Rattle.questions.proofs.holders.introduces.Tie as tie
+use Rattle.leave.proofs.Holding.{PlacesTo, places-none, places-next, places-found, places-all}
+use Rattle.leave.proofs.holders.introduces.Statement.{statement}
+use Rattle.leave.proofs.holders.introduces.Tie as tie
 
 abbrev Inv-loop : tie.InvT-loop
 Inv-loop b p n i₀ i = PlacesTo p b n i
