@@ -21,10 +21,16 @@ const struct command commands[] = {
     {"line", {"TABLE"}, {0}, line_command, "line TABLE", "is the table in line? yes or no",
      "Prints yes where each station's left is the next smaller station present, none for the smallest, and likewise its right,\n"
      "else no. The exit status is 0 for yes and 1 for no.\n"},
-    {"view", {"TABLE"}, {0}, view_command, "view TABLE", "the blocks in stored order, then 'end'",
-     "Prints a line for each station in stored order, and then 'end'.\n"},
-    {"draw", {"TABLE"}, {0}, draw_command, "draw TABLE", "the line as Graphviz text",
-     "Prints the line as text for Graphviz: station-line draw table.bin | dot -Tsvg > line.svg\n"},
+    {"view", {"TABLE"}, {0}, view_command, "view TABLE", "where the blocks lie, then 'end'",
+     "Prints for each block, in stored order, its number, its offset and its station line, and then 'end'. 'dump table' prints the\n"
+     "station lines alone, which 'assemble' takes.\n"},
+    {"draw", {"TABLE"}, {[ONLY] = true, [AROUND] = true}, draw_command, "draw TABLE", "the line as Graphviz text",
+     "Prints the line as text for Graphviz: station-line draw table.bin | dot -Tsvg > line.svg\n"
+     "Solid arrows lead to neighbours, dashed ones to stations introduced in a bag, copies as ×n. A station shows the l and r that\n"
+     "wait in its bag and how full the bag is. Leaving stations are grey, those with a full bag red.\n"
+     "\n"
+     "  --only neighbours    no introductions\n"
+     "  --around STATION     only the links of this station\n"},
     {"assemble", {"table|steps", "TEXT"}, {[OUTPUT] = true}, assemble_command, "assemble table|steps TEXT [-o OUT]", "station or step lines into a table or step list",
      "Makes a table from station lines such as '5 3 - stay i7 l', or a step list from lines such as 'timeout 5', 'deliver 5 i7'\n"
      "and 'exit 5'. Empty lines and lines that begin with '#' are passed over.\n"

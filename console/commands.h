@@ -5,7 +5,7 @@
 #include <stdbool.h>
 #include <stddef.h>
 
-enum option { OUTPUT, ALL_OR_NOTHING, ALL, DAMAGED, TRACE, OPTIONS };
+enum option { OUTPUT, ALL_OR_NOTHING, ALL, DAMAGED, TRACE, ONLY, AROUND, OPTIONS };
 
 #define MOST_WORDS ((size_t)2)
 

@@ -14,6 +14,8 @@ static const struct form {
     [ALL] = {NULL, "--all", NULL},
     [DAMAGED] = {NULL, "--damaged", NULL},
     [TRACE] = {NULL, "--trace", NULL},
+    [ONLY] = {NULL, "--only", "'neighbours' is missing"},
+    [AROUND] = {NULL, "--around", "a station number is missing"},
 };
 
 static bool begins(const char *word, const char *start) {

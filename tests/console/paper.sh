@@ -20,7 +20,13 @@ try 'the listing' 0 "$listing" '' run table.bin steps.bin
 try 'the listing, with -o' 0 "$listing" '' run table.bin steps.bin -o new.bin
 try 'the new table' 0 "${listing#*$'\n'}" '' dump table new.bin
 try 'the new table is accepted' 0 $'0\n' '' check new.bin
-try 'the view of the table' 0 "${example}end"$'\n' '' view table.bin
+viewed='block 1 at 0: 3 - 5 stay
+block 2 at 512: 5 3 9 stay i7
+block 3 at 1024: 7 - - stay
+block 4 at 1536: 9 5 - stay
+end
+'
+try 'the view of the table' 0 "$viewed" '' view table.bin
 try 'the table as text' 0 "$example" '' dump table table.bin
 try 'the step as text' 0 $'deliver 5 i7\n' '' dump steps steps.bin
 
@@ -29,7 +35,7 @@ input=table.bin try 'the table from a pipe' 0 "$listing" '' run - steps.bin
 input=steps.bin try 'the steps from a pipe' 0 "$listing" '' run table.bin -
 try 'both from pipes' 0 "$listing" '' run <(cat table.bin) <(cat steps.bin)
 input=table.bin try 'check from a pipe' 0 $'0\n' '' check -
-input=table.bin try 'view from a pipe' 0 "${example}end"$'\n' '' view -
+input=table.bin try 'view from a pipe' 0 "$viewed" '' view -
 input=table.bin try 'dump from a pipe' 0 "$example" '' dump table -
 input=table.bin try 'leave from a pipe' 1 $'no\n' '' leave - 7
 input=table.bin try 'line from a pipe' 1 $'no\n' '' line -
@@ -43,11 +49,17 @@ holds 'the check word of document 01' cmp word.got word.want
 # Any order is kept; what is written is in the one order.
 tac stations.txt > backwards.txt
 try 'assemble the example backwards' 0 '' '' assemble table backwards.txt -o backwards.bin
-try 'the view keeps the stored order' 0 "$(cat backwards.txt)"$'\nend\n' '' view backwards.bin
+try 'the view keeps the stored order' 0 'block 1 at 0: 9 5 - stay
+block 2 at 512: 7 - - stay
+block 3 at 1024: 5 3 9 stay i7
+block 4 at 1536: 3 - 5 stay
+end
+' '' view backwards.bin
+try 'the dump keeps the stored order' 0 "$(cat backwards.txt)"$'\n' '' dump table backwards.bin
 try 'the listing is the same' 0 "$listing" '' run backwards.bin steps.bin -o new2.bin
 holds 'the table written is the same' cmp new.bin new2.bin
 table mixed.bin '5 - - stay r i9 l i5 r i9' '9 - - stay'
-try 'messages in stored order' 0 $'5 - - stay r i9 l i5 r i9\n9 - - stay\nend\n' '' view mixed.bin
+try 'messages in stored order' 0 $'block 1 at 0: 5 - - stay r i9 l i5 r i9\nblock 2 at 512: 9 - - stay\nend\n' '' view mixed.bin
 : > none.bin
 try 'messages in written order' 0 $'answer 0 done 0 stations 2\n5 - - stay i5 i9 i9 l r r\n9 - - stay\n' '' run mixed.bin none.bin
 

@@ -14,7 +14,7 @@ end
 try 'not in line' 1 $'no\n' '' line asked.bin
 table straight.bin '9 5 - stay' '3 - 5 leave' '5 3 9 stay l'
 try 'in line, in another order' 0 $'yes\n' '' line straight.bin
-try 'the view of it' 0 $'9 5 - stay\n3 - 5 leave\n5 3 9 stay l\nend\n' '' view straight.bin
+try 'the view of it' 0 $'block 1 at 0: 9 5 - stay\nblock 2 at 512: 3 - 5 leave\nblock 3 at 1024: 5 3 9 stay l\nend\n' '' view straight.bin
 table free.bin '7 - 9 stay' '9 - - leave i9'
 try 'yes, without a leaving mark' 0 $'yes\n' '' leave free.bin 7
 try 'a number with a zero before it' 0 $'yes\n' '' leave free.bin 07
