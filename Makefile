@@ -62,13 +62,14 @@ $(CONSOLE): $(wildcard console/*.c console/*.h) $(HEADERS) target/lib/libstation
 	@mkdir -p $(@D)
 	$(COMPILE) console/*.c target/lib/libstation_line.a $(LDFLAGS) -o $@
 
-# Headers, library, program, man pages and pkg-config file. DESTDIR goes before every folder for packagers and is named nowhere in what is
+# Headers, library, program, man pages, completion and pkg-config file. DESTDIR goes before every folder for packagers and is named nowhere in what is
 # installed.
 PREFIX ?= /usr/local
 BINDIR ?= $(PREFIX)/bin
 INCLUDEDIR ?= $(PREFIX)/include
 LIBDIR ?= $(PREFIX)/lib
 MANDIR ?= $(PREFIX)/share/man
+COMPLETIONDIR ?= $(PREFIX)/share/bash-completion/completions
 INSTALL ?= install
 # The functions of the library, each of which has a man page that leads to station_line(3).
 OPEN = (
@@ -77,10 +78,12 @@ BIN = $(DESTDIR)$(BINDIR)
 INCLUDE = $(DESTDIR)$(INCLUDEDIR)
 LIB = $(DESTDIR)$(LIBDIR)
 MAN = $(DESTDIR)$(MANDIR)
+COMPLETION = $(DESTDIR)$(COMPLETIONDIR)
 
 install: all console
-	$(INSTALL) -d "$(BIN)" "$(INCLUDE)" "$(LIB)/pkgconfig" "$(MAN)/man1" "$(MAN)/man3"
+	$(INSTALL) -d "$(BIN)" "$(INCLUDE)" "$(LIB)/pkgconfig" "$(MAN)/man1" "$(MAN)/man3" "$(COMPLETION)"
 	$(INSTALL) -m 755 $(CONSOLE) "$(BIN)/station-line"
+	$(INSTALL) -m 644 console/station-line.bash "$(COMPLETION)/station-line"
 	$(INSTALL) -m 644 $(HEADERS) "$(INCLUDE)"
 	$(INSTALL) -m 644 target/lib/libstation_line.a "$(LIB)/libstation_line.a"
 	$(INSTALL) -m 755 target/lib/libstation_line.so.$(VERSION) "$(LIB)/libstation_line.so.$(VERSION)"
@@ -95,7 +98,7 @@ install: all console
 	chmod 644 "$(LIB)/pkgconfig/station-line.pc"
 
 uninstall:
-	rm -f "$(BIN)/station-line" "$(INCLUDE)/station_line.h" "$(INCLUDE)/station_line_layout.h"
+	rm -f "$(BIN)/station-line" "$(COMPLETION)/station-line" "$(INCLUDE)/station_line.h" "$(INCLUDE)/station_line_layout.h"
 	rm -f "$(LIB)/libstation_line.a" "$(LIB)/libstation_line.so" "$(LIB)/$(SONAME)" "$(LIB)/libstation_line.so.$(VERSION)"
 	rm -f "$(LIB)/pkgconfig/station-line.pc" "$(MAN)/man1/station-line.1" "$(MAN)/man3/station_line.3"
 	for name in $(FUNCTIONS); do rm -f "$(MAN)/man3/$$name.3" || exit 1; done

@@ -32,6 +32,7 @@ lib64/libstation_line.so
 lib64/libstation_line.so.1
 lib64/libstation_line.so.1.1
 lib64/pkgconfig/station-line.pc
+share/bash-completion/completions/station-line
 share/man/man1/station-line.1
 share/man/man3/station_line.3
 $(sed 's|.*|share/man/man3/&.3|' <<< "$functions")"
