@@ -1,5 +1,19 @@
-# The station line. `make help` names what can be made. All of it needs the Rattle kit, bash and a C compiler; the tests also need rustc
-# and python3.
+# The station line. What can be made:
+#
+#   make help       this list
+#   make run        the main job: proves the listing's program and runs it over examples/ (minutes the first time, then seconds)
+#   make            the library for C, target/lib/libstation_line.a and .so
+#   make console    the console program, target/console/station-line
+#   make test       every test; the last line is 'N passed, 0 failed' (20 to 40 minutes on two processors)
+#   make install    headers, library, program, man pages, completion and pkg-config file, to PREFIX (/usr/local); DESTDIR, BINDIR,
+#                   INCLUDEDIR, LIBDIR, MANDIR and COMPLETIONDIR are heeded
+#   make uninstall  removes them again
+#   make soak       compares the library with an independent model on random input, for SECONDS seconds (600)
+#   make fuzz       fuzzes the library through its C interface, for SECONDS seconds (600); needs clang with libFuzzer
+#   make bench      times it beside that model and a tuned version (a minute)
+#   make clean      removes target/
+#
+# All of it needs the Rattle kit, bash and a C compiler; the tests also need rustc and python3.
 .PHONY: all help run test soak fuzz bench clean console install uninstall
 
 CFLAGS ?= -O2
@@ -29,22 +43,26 @@ target/lib/libstation_line.so: target/lib/libstation_line.a
 	@ln -sf libstation_line.so.$(VERSION) target/lib/$(SONAME)
 	@ln -sf $(SONAME) $@
 
+help:
+	@sed -n '/^.PHONY/q; s/^#   //p' Makefile
+
 # Runs the step list of examples/ over its table and prints the listing of document 01.
 run:
-	@rt check listing > /dev/null
-	@cd examples && ../target/bin/listing
+	@./examples/run
 
+# Every minute it is said how long is left, by what these take as a rule.
+TEST_SECONDS ?= 1800
 test:
-	@./tests/all
+	@./tests/timed 'make test' $(TEST_SECONDS) ./tests/all
 
 # Compares the archive with the model of tests/model on random tables and step lists, for SECONDS seconds.
 SECONDS ?= 600
 soak:
-	@./tests/differential/run --soak $(SECONDS)
+	@./tests/timed 'make soak' $(SECONDS) ./tests/differential/run --soak $(SECONDS)
 
 # Fuzzes the archive through its C interface, for SECONDS seconds.
 fuzz:
-	@./fuzz/run $(SECONDS)
+	@./tests/timed 'make fuzz' $(SECONDS) ./fuzz/run $(SECONDS)
 
 # Times the archive beside the model and a tuned Rust version; bench/run --count adds instruction counts.
 bench:
