@@ -96,7 +96,7 @@ try 'nothing' 0 '' '' dump table --damaged empty
 misuse --damaged "goes with 'table'" dump
 try 'of a step list' 2 '' "$said" dump steps --damaged steps.bin
 end
-holds 'tables damaged at random' "$python" "$root/tests/console/damaged.py" "$program" 120 table.bin 64.bin leaving.bin mixed.bin straight.bin
+holds 'tables damaged at random' "$python" "$root/tests/console/damaged.py" "$program" 80 table.bin 64.bin leaving.bin mixed.bin straight.bin
 . "$root/tests/console/stored_cases.sh"
 # stored_damage CASE: the place of a stored table's number is found, and its bytes are read
 stored_damage() {

@@ -8,6 +8,7 @@ group 'stored tables: the number of the check'
 each stored_check "$stored"/check.*.table
 end
 group 'stored questions: yes, no or the number'
+[ "$pass" != sanitized ] || stride=5 # a sanitized program takes its time to begin; the other one is asked all of them
 each_question "$stored/questions"
 end
 unset ASAN_OPTIONS
