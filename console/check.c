@@ -21,8 +21,8 @@ static void take_first(void *context, const struct place *place) {
 }
 
 static void say_place(const char *name, const struct place *place, const char *more) {
-    say_refusal_with(name, place->number, "block %zu at %zu, station %u: %s%s", place->block + 1, STATION_LINE_BLOCK_BYTES * place->block,
-                     (unsigned)place->station, place->words, more);
+    say_refusal_with(name, place->number, "block %zu at %zu, station %u: %s%s", place->block + 1,
+                     STATION_LINE_BLOCK_BYTES * place->block, (unsigned)place->station, place->words, more);
 }
 
 static void say_each(void *context, const struct place *place) {
@@ -31,7 +31,8 @@ static void say_each(void *context, const struct place *place) {
 }
 
 static void say_length(const char *name, size_t len) {
-    say_refusal_with(name, STATION_LINE_TABLE_LENGTH, "%zu bytes, %zu more than whole blocks", len, len % STATION_LINE_BLOCK_BYTES);
+    say_refusal_with(name, STATION_LINE_TABLE_LENGTH, "%zu bytes, %zu more than whole blocks", len,
+                     len % STATION_LINE_BLOCK_BYTES);
 }
 
 /* The first place of the number, and how many more there are. */

@@ -34,8 +34,8 @@ static struct point edge_of_box(struct point middle, struct point towards) {
     return middle;
 }
 
-/* How far the two middle points of a curve lie beside the straight way: above it to the right, below it to the left, and likewise up
- * and down. Far ones in a row pass between two rows. */
+/* How far the two middle points of a curve lie beside the straight way: above it to the right, below it to the left, and likewise
+ * up and down. Far ones in a row pass between two rows. */
 static struct point bow_of(struct point way, bool introduction) {
     int columns = size_of(way.x) / STEP_X, rows = size_of(way.y) / STEP_Y, near = introduction ? 30 : 10;
     if (rows == 0)
@@ -53,15 +53,18 @@ static void put_head(struct curve *curve, struct point bow) {
     curve->points[3] = curve->tip;
     if (length > 0)
         curve->points[3] = plus(curve->tip, (struct point){back.x * TIP / length, back.y * TIP / length});
-    curve->label.x = (curve->points[0].x + 3 * curve->points[1].x + 3 * curve->points[2].x + curve->points[3].x) / 8 + 14 * sign_of(bow.x);
-    curve->label.y = (curve->points[0].y + 3 * curve->points[1].y + 3 * curve->points[2].y + curve->points[3].y) / 8 + 8 * sign_of(bow.y);
+    curve->label.x =
+        (curve->points[0].x + 3 * curve->points[1].x + 3 * curve->points[2].x + curve->points[3].x) / 8 + 14 * sign_of(bow.x);
+    curve->label.y =
+        (curve->points[0].y + 3 * curve->points[1].y + 3 * curve->points[2].y + curve->points[3].y) / 8 + 8 * sign_of(bow.y);
 }
 
 /* From a box to itself: out of its upper side and in again. */
 static struct curve loop_at(struct point middle) {
     int top = middle.y + BOX_HEIGHT / 2, side = BOX_WIDTH / 4;
     struct curve curve = {{{middle.x - side, top}, {middle.x - side - 6, top + 36}, {middle.x + side + 6, top + 36}, {0, 0}},
-                          {middle.x + side, top}, {0, 0}};
+                          {middle.x + side, top},
+                          {0, 0}};
     put_head(&curve, (struct point){0, 1});
     return curve;
 }
@@ -70,10 +73,12 @@ static struct curve loop_at(struct point middle) {
 static struct curve short_between(struct point a, struct point b, struct point way, struct point bow) {
     struct point half = {sign_of(way.x) * BOX_WIDTH / 2, sign_of(way.y) * BOX_HEIGHT / 2};
     struct point side = {bow.x * 2 / 3, bow.y * 2 / 3};
-    struct point start = plus(plus(a, half), side), end = plus(minus(b, half), side), gap = minus(end, start), rise = minus(bow, side);
+    struct point start = plus(plus(a, half), side), end = plus(minus(b, half), side), gap = minus(end, start),
+                 rise = minus(bow, side);
     struct curve curve = {{start, plus(plus(start, rise), (struct point){gap.x / 3, gap.y / 3}),
                            plus(minus(end, (struct point){gap.x / 3, gap.y / 3}), rise), end},
-                          end, {0, 0}};
+                          end,
+                          {0, 0}};
     put_head(&curve, bow);
     return curve;
 }

@@ -1,5 +1,5 @@
-/* Where things stand in a drawing, in points with y upwards: the stations in rows of eight, every second row backwards, so that who
- * follows whom by number stands beside it; and the arrows between them. */
+/* Where things stand in a drawing, in points with y upwards: the stations in rows of eight, every second row backwards, so that
+ * who follows whom by number stands beside it; and the arrows between them. */
 #ifndef CURVE_H
 #define CURVE_H
 

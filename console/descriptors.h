@@ -13,7 +13,8 @@ bool write_whole(int file, const uint8_t *bytes, size_t len);
 /* Closes the file whatever came before and keeps the first failure. */
 bool close_after(int file, bool good);
 
-/* "standard output" or "standard error" where that is the very file, else null. The null device, which keeps nothing, is neither. */
+/* "standard output" or "standard error" where that is the very file, else null. The null device, which keeps nothing, is neither.
+ */
 const char *standard_name(const struct stat *file);
 
 /* Takes the places of standard input, output and error where they are closed, so that no other file comes to stand there; what is

@@ -6,8 +6,8 @@
 
 #include "reason.h"
 
-/* Whether the new file, which nobody but its owner may open so far, now has all of these of the old one. At no time may anyone open
- * it who may not open the old one. */
+/* Whether the new file, which nobody but its owner may open so far, now has all of these of the old one. At no time may anyone
+ * open it who may not open the old one. */
 bool dress(int new_file, int old_file, struct reason *why);
 
 #endif

@@ -40,7 +40,8 @@ static int dump_steps(const char *path) {
     for (size_t at = 0; at < len; at += STATION_LINE_STEP_BYTES) {
         struct station_line_step step = station_line_read_step(steps + at);
         if (malformed(steps + at)) {
-            say_refusal_with(name_of(path), STATION_LINE_MALFORMED, "step %zu: %s", at / STATION_LINE_STEP_BYTES + 1, malformed_text(step).text);
+            say_refusal_with(name_of(path), STATION_LINE_MALFORMED, "step %zu: %s", at / STATION_LINE_STEP_BYTES + 1,
+                             malformed_text(step).text);
             return OTHER;
         }
         (void)puts(step_text(step).text);

@@ -8,8 +8,8 @@ static size_t length_of(unsigned char first) {
     return first < 0x80 ? 1 : first < 0xc2 ? 0 : first < 0xe0 ? 2 : first < 0xf0 ? 3 : first < 0xf5 ? 4 : 0;
 }
 
-/* The character at the start of the bytes and its length, which is 0 where no whole character of UTF-8 stands there: one too short for
- * its bytes, past the last one or half of a pair is none. */
+/* The character at the start of the bytes and its length, which is 0 where no whole character of UTF-8 stands there: one too
+ * short for its bytes, past the last one or half of a pair is none. */
 static size_t decode(const unsigned char *bytes, size_t len, uint32_t *character) {
     static const uint32_t least[] = {0, 0, 0x80, 0x800, 0x10000};
     size_t wanted = length_of(bytes[0]);

@@ -5,8 +5,8 @@
 #include <stddef.h>
 #include <stdio.h>
 
-/* Text in UTF-8 as it is; control characters, characters that turn the direction of the text, and bytes that are no UTF-8 as `\x1b`;
- * a backslash as two. */
+/* Text in UTF-8 as it is; control characters, characters that turn the direction of the text, and bytes that are no UTF-8 as
+ * `\x1b`; a backslash as two. */
 void put_escaped(FILE *out, const char *bytes, size_t len);
 
 #endif

@@ -43,7 +43,8 @@ static bool is_unknown(const struct search *search, uint32_t station) {
 #ifdef __GNUC__
 __attribute__((format(printf, 4, 5)))
 #endif
-static void found(const struct search *search, const char *field, size_t offset, const char *format, ...) {
+static void
+found(const struct search *search, const char *field, size_t offset, const char *format, ...) {
     struct place place = {search->number, search->block, search->fields.station, ""};
     int len = snprintf(place.words, sizeof place.words, "%s at %zu ", field, STATION_LINE_BLOCK_BYTES * search->block + offset);
     va_list values;
@@ -151,12 +152,23 @@ void find_in_block(const uint8_t *table, size_t len, size_t block, uint32_t numb
     struct search search = {.table = table, .len = len, .block = block, .number = number, .take = take, .context = context};
     station_line_read_block(block_bytes(&search), &search.fields);
     switch (number) {
-    case STATION_LINE_CHECK_WORD: find_check(&search); break;
-    case STATION_LINE_FIELD: find_fields(&search); break;
-    case STATION_LINE_SIDES: find_sides(&search); break;
-    case STATION_LINE_TWICE: find_twin(&search); break;
-    case STATION_LINE_UNKNOWN: find_unknown(&search); break;
-    default: break; /* 1 and 2 are about the length */
+    case STATION_LINE_CHECK_WORD:
+        find_check(&search);
+        break;
+    case STATION_LINE_FIELD:
+        find_fields(&search);
+        break;
+    case STATION_LINE_SIDES:
+        find_sides(&search);
+        break;
+    case STATION_LINE_TWICE:
+        find_twin(&search);
+        break;
+    case STATION_LINE_UNKNOWN:
+        find_unknown(&search);
+        break;
+    default:
+        break; /* 1 and 2 are about the length */
     }
 }
 

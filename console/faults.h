@@ -1,5 +1,5 @@
-/* Where in a table a fault of number 3 to 7 stands: the block, the station and the field. Which number a table has is for the library to
- * say; here only the places are looked for, in any bytes. */
+/* Where in a table a fault of number 3 to 7 stands: the block, the station and the field. Which number a table has is for the
+ * library to say; here only the places are looked for, in any bytes. */
 #ifndef FAULTS_H
 #define FAULTS_H
 

@@ -30,9 +30,12 @@ void print_station(FILE *out, const struct station_line_block *block) {
 
 struct step_text step_text(struct station_line_step step) {
     struct step_text text;
-    const char *action = step.action == STATION_LINE_TIMEOUT ? "timeout" : step.action == STATION_LINE_DELIVER ? "deliver" : "exit";
+    const char *action = step.action == STATION_LINE_TIMEOUT   ? "timeout"
+                         : step.action == STATION_LINE_DELIVER ? "deliver"
+                                                               : "exit";
     if (step.action == STATION_LINE_DELIVER)
-        (void)snprintf(text.text, sizeof text.text, "%s %u %s", action, (unsigned)step.station, message_text(step.kind, step.number).text);
+        (void)snprintf(text.text, sizeof text.text, "%s %u %s", action, (unsigned)step.station,
+                       message_text(step.kind, step.number).text);
     else
         (void)snprintf(text.text, sizeof text.text, "%s %u", action, (unsigned)step.station);
     return text;
@@ -53,11 +56,6 @@ static void print_block(FILE *out, const uint8_t *bytes) {
     struct station_line_block block;
     station_line_read_block(bytes, &block);
     print_station(out, &block);
-}
-
-void print_stations(FILE *out, const uint8_t *table, size_t stations) {
-    for (size_t k = 0; k < stations; k++)
-        print_block(out, table + STATION_LINE_BLOCK_BYTES * k);
 }
 
 void print_walk(FILE *out, struct walk *walk) {

@@ -18,7 +18,8 @@ struct message_text {
 };
 struct message_text message_text(uint16_t kind, uint32_t number);
 
-/* The text of a step: `timeout 5`, `deliver 5 i7`, `deliver 5 l`, `deliver 5 r` or `exit 5`, or the four fields of a malformed one. */
+/* The text of a step: `timeout 5`, `deliver 5 i7`, `deliver 5 l`, `deliver 5 r` or `exit 5`, or the four fields of a malformed
+ * one. */
 struct step_text {
     char text[80];
 };
@@ -27,9 +28,6 @@ struct step_text malformed_text(struct station_line_step step);
 
 /* The first line of the listing. */
 void print_answer(FILE *out, struct station_line_ran ran);
-
-/* A line for each station of a table that a run wrote. */
-void print_stations(FILE *out, const uint8_t *table, size_t stations);
 
 /* A line for each station that the walk has left. */
 void print_walk(FILE *out, struct walk *walk);

@@ -23,7 +23,8 @@ static void put_holders(struct parts *parts, const struct station_line_block *ow
             continue;
         if (other->left == own->station || other->right == own->station) {
             next_part(parts);
-            (void)fprintf(parts->out, "%u has it as %s", (unsigned)other->station, other->left == own->station ? "left" : "right");
+            (void)fprintf(parts->out, "%u has it as %s", (unsigned)other->station,
+                          other->left == own->station ? "left" : "right");
         }
         if (copies(other, introduction) > 0) {
             next_part(parts);
@@ -32,8 +33,8 @@ static void put_holders(struct parts *parts, const struct station_line_block *ow
     }
 }
 
-/* The table with every bag but the station's own emptied: what the step sends there, it would send, since a station's part in a step
- * depends on its own fields and bag, and NIDEC, which an exit has passed by then, holds all the more. */
+/* The table with every bag but the station's own emptied: what the step sends there, it would send, since a station's part in a
+ * step depends on its own fields and bag, and NIDEC, which an exit has passed by then, holds all the more. */
 static size_t empty_bags(uint8_t *table, const struct snapshot *now, uint32_t station) {
     for (size_t k = 0; k < now->count; k++) {
         struct station_line_block block = now->stations[k];

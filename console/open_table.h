@@ -1,5 +1,5 @@
-/* A table read from a file, for the commands that need one, into a room of STATION_LINE_TABLE_BYTES + 1: what refuses it is said, and the exit
- * status given. */
+/* A table read from a file, for the commands that need one, into a room of STATION_LINE_TABLE_BYTES + 1: what refuses it is said,
+ * and the exit status given. */
 #ifndef OPEN_TABLE_H
 #define OPEN_TABLE_H
 

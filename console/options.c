@@ -4,8 +4,8 @@
 
 #include "say.h"
 
-/* How an option is written: `-o FILE`, `-oFILE`, `--output FILE` or `--output=FILE`; and what is said where its value is missing, null
- * for an option that takes none. */
+/* How an option is written: `-o FILE`, `-oFILE`, `--output FILE` or `--output=FILE`; and what is said where its value is missing,
+ * null for an option that takes none. */
 static const struct form {
     const char *brief, *name, *value;
 } forms[OPTIONS] = {

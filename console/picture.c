@@ -5,11 +5,12 @@
 
 #include "curve.h"
 
-static const char top[] = "digraph line {\n"
-                          "    layout=nop2;\n"
-                          "    outputorder=edgesfirst;\n"
-                          "    node [shape=box, style=\"rounded,filled\", fillcolor=white, fixedsize=true, width=1.333, height=0.778, fontsize=11];\n"
-                          "    edge [arrowsize=0.7, fontsize=10];\n";
+static const char top[] =
+    "digraph line {\n"
+    "    layout=nop2;\n"
+    "    outputorder=edgesfirst;\n"
+    "    node [shape=box, style=\"rounded,filled\", fillcolor=white, fixedsize=true, width=1.333, height=0.778, fontsize=11];\n"
+    "    edge [arrowsize=0.7, fontsize=10];\n";
 
 static int by_number(const void *a, const void *b) {
     uint32_t x = ((const struct station_line_block *)a)->station, y = ((const struct station_line_block *)b)->station;
@@ -59,7 +60,8 @@ static void leave_out(struct snapshot *snapshot, struct choice choice) {
     size_t kept = 0;
     for (size_t k = 0; k < snapshot->count; k++) {
         const struct station_line_block *other = &snapshot->stations[k];
-        if (other->station == choice.around || has_link(other, choice.around, choice) || has_link(&middle, other->station, choice))
+        if (other->station == choice.around || has_link(other, choice.around, choice) ||
+            has_link(&middle, other->station, choice))
             snapshot->stations[kept++] = *other;
     }
     snapshot->count = kept;
@@ -116,7 +118,8 @@ static void print_arrows(const struct snapshot *snapshot, size_t place, struct c
     if (station->right != 0 && is_drawn(choice, station->station, station->right))
         print_arrow(snapshot, place, station->right, false, 1);
     for (size_t k = 0; k < station_line_held(station) && !choice.only_neighbours; k++)
-        if (is_introduction(station, k) && is_first_copy(station, k) && is_drawn(choice, station->station, station->messages[k].number))
+        if (is_introduction(station, k) && is_first_copy(station, k) &&
+            is_drawn(choice, station->station, station->messages[k].number))
             print_arrow(snapshot, place, station->messages[k].number, true, copies(station, station->messages[k]));
 }
 

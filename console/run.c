@@ -52,7 +52,8 @@ static int say_end(struct station_line_ran ran, const struct input *input) {
     return OTHER;
 }
 
-/* Where the new table goes, null for nowhere, whether only a run that does every step is to write it, and whether each step is told. */
+/* Where the new table goes, null for nowhere, whether only a run that does every step is to write it, and whether each step is
+ * told. */
 struct output {
     const char *path;
     bool all_or_nothing, trace;
@@ -62,20 +63,27 @@ static bool is_saved(struct output output, uint32_t number) {
     return output.path != NULL && is_written(number) && (number == STATION_LINE_DONE || !output.all_or_nothing);
 }
 
+/* What was written is walked like any other table. */
+static void print_listing(struct station_line_ran ran, const uint8_t *room) {
+    struct walk walk;
+    print_answer(stdout, ran);
+    if (is_written(ran.answer) && walk_begin(&walk, room, STATION_LINE_BLOCK_BYTES * ran.stations) == STATION_LINE_DONE)
+        print_walk(stdout, &walk);
+}
+
 /* The table is safe in its file before the listing says that the run was done. Where it can't be written there is no listing. */
 static int run(const struct input *input, struct output output) {
     uint8_t room[STATION_LINE_TABLE_BYTES];
     struct reason why = {NULL, 0};
     struct station_line_ran ran =
         station_line_run(input->table, input->table_len, input->steps, input->steps_len, room, input->table_len);
-    enum saved saved = is_saved(output, ran.answer) ? save(output.path, room, STATION_LINE_BLOCK_BYTES * ran.stations, &why) : SAVED;
+    enum saved saved =
+        is_saved(output, ran.answer) ? save(output.path, room, STATION_LINE_BLOCK_BYTES * ran.stations, &why) : SAVED;
     if (saved == UNSAVED)
         return tell_saved(output.path, saved, why);
     if (output.trace && is_written(ran.answer))
         print_trace(stdout, input->table, input->table_len, input->steps, input->steps_len);
-    print_answer(stdout, ran);
-    if (is_written(ran.answer))
-        print_stations(stdout, room, ran.stations);
+    print_listing(ran, room);
     int status = say_end(ran, input);
     if (output.path != NULL && is_written(ran.answer) && !is_saved(output, ran.answer))
         say_trouble(output.path, "not written: the run stopped");
@@ -83,7 +91,8 @@ static int run(const struct input *input, struct output output) {
 }
 
 int run_command(const struct arguments *arguments) {
-    struct output output = {arguments->options[OUTPUT], arguments->options[ALL_OR_NOTHING] != NULL, arguments->options[TRACE] != NULL};
+    struct output output = {arguments->options[OUTPUT], arguments->options[ALL_OR_NOTHING] != NULL,
+                            arguments->options[TRACE] != NULL};
     struct input input;
     input.table_path = arguments->words[0];
     input.steps_path = arguments->words[1];

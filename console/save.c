@@ -127,6 +127,7 @@ enum saved save(const char *path, const uint8_t *bytes, size_t len, struct reaso
 int tell_saved(const char *path, enum saved saved, struct reason why) {
     if (saved == SAVED)
         return DONE;
-    say_reason(strcmp(path, "-") == 0 ? "standard output" : path, saved == UNSYNCED ? "written, but a power cut may undo it" : "not written", why);
+    say_reason(strcmp(path, "-") == 0 ? "standard output" : path,
+               saved == UNSYNCED ? "written, but a power cut may undo it" : "not written", why);
     return TROUBLE;
 }

@@ -98,7 +98,8 @@ static bool present(uint32_t number, const struct station_line_block *stations, 
 
 /* Whether a word is at fault: the station's own number (word 0), its left (1), its right (2) or a message (4 and on). A name of 0
  * is none. */
-static bool at_fault(uint32_t number, size_t word, uint32_t name, const struct station_line_block *stations, size_t count, size_t before) {
+static bool at_fault(uint32_t number, size_t word, uint32_t name, const struct station_line_block *stations, size_t count,
+                     size_t before) {
     uint32_t own = stations[before].station;
     if (number == STATION_LINE_SIDES)
         return name != 0 && ((word == 1 && name >= own) || (word == 2 && name <= own));
@@ -111,7 +112,11 @@ bool find_fault(uint32_t number, struct line line, const struct station_line_blo
                 struct word *word) {
     const struct station_line_block *own = &stations[before];
     for (size_t k = 0; next_word(&line, word); k++) {
-        uint32_t name = k == 0 ? own->station : k == 1 ? own->left : k == 2 ? own->right : k == 3 ? 0 : own->messages[k - 4].number;
+        uint32_t name = k == 0   ? own->station
+                        : k == 1 ? own->left
+                        : k == 2 ? own->right
+                        : k == 3 ? 0
+                                 : own->messages[k - 4].number;
         if (at_fault(number, k, name, stations, count, before))
             return true;
     }

@@ -1,5 +1,5 @@
-/* A new file beside the one that it will replace. As long as it stands under its own name, the signals INT, TERM and HUP remove it
- * before they end the program. Where a call fails, errno says why. One such file stands at a time. */
+/* A new file beside the one that it will replace. As long as it stands under its own name, the signals INT, TERM and HUP remove
+ * it before they end the program. Where a call fails, errno says why. One such file stands at a time. */
 #ifndef TEMPORARY_H
 #define TEMPORARY_H
 

@@ -6,8 +6,8 @@
 #include <stdint.h>
 #include <stdio.h>
 
-/* Up to the first refused step and with it. The table is accepted, and the list is of a good length. Each step is a run of its own over
- * the table that the steps before it left. */
+/* Up to the first refused step and with it. The table is accepted, and the list is of a good length. Each step is a run of its
+ * own over the table that the steps before it left. */
 void print_trace(FILE *out, const uint8_t *table, size_t table_len, const uint8_t *steps, size_t steps_len);
 
 #endif

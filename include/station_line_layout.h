@@ -1,7 +1,7 @@
 /* One block and one step of the station line, taken apart and put together in plain C (docs/FORMAT.md has every byte).
  *
- * Any bytes may be read: the fields are what the bytes say, good or not. Which tables and step lists are good is for the library to say
- * (station_line.h); these functions are not proved and need no library.
+ * Any bytes may be read: the fields are what the bytes say, good or not. Which tables and step lists are good is for the library
+ * to say (station_line.h); these functions are not proved and need no library.
  */
 #ifndef STATION_LINE_LAYOUT_H
 #define STATION_LINE_LAYOUT_H
@@ -30,8 +30,8 @@ struct station_line_message {
     uint32_t number;
 };
 
-/* The fields of a block. A left or right of 0 is none. The messages are the first `count` of the places; `count` is at most 32 in a good
- * block, and may be up to 65,535 in another. */
+/* The fields of a block. A left or right of 0 is none. The messages are the first `count` of the places; `count` is at most 32 in
+ * a good block, and may be up to 65,535 in another. */
 struct station_line_block {
     uint16_t layout, flags;
     uint32_t station, left, right;
@@ -96,8 +96,8 @@ static inline void station_line_read_block(const uint8_t *bytes, struct station_
     block->check = station_line_get16(bytes + 510);
 }
 
-/* All 512 bytes: the fields, the messages up to the count and zeros behind them, and the check word that makes it right, whatever `check`
- * says. */
+/* All 512 bytes: the fields, the messages up to the count and zeros behind them, and the check word that makes it right, whatever
+ * `check` says. */
 static inline void station_line_write_block(uint8_t *bytes, const struct station_line_block *block) {
     size_t k;
     for (k = 0; k < STATION_LINE_BLOCK_BYTES; k++)

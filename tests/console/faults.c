@@ -66,20 +66,20 @@ static void leave(enum what what) {
     errno = first;
 }
 
-#define WRAP(result, name, parameters, arguments)                                                                                 \
-    result name parameters {                                                                                                      \
-        result(*next) parameters;                                                                                                 \
-        *(void **)&next = dlsym(RTLD_NEXT, #name);                                                                                \
-        enum what what = meet(#name);                                                                                             \
-        if (what == FAIL) {                                                                                                       \
-            errno = value;                                                                                                        \
-            return (result)-1;                                                                                                    \
-        }                                                                                                                         \
-        if (what == SKIP)                                                                                                         \
-            return 0;                                                                                                             \
-        result got = next arguments;                                                                                              \
-        leave(what);                                                                                                              \
-        return got;                                                                                                               \
+#define WRAP(result, name, parameters, arguments)                                                                                \
+    result name parameters {                                                                                                     \
+        result(*next) parameters;                                                                                                \
+        *(void **)&next = dlsym(RTLD_NEXT, #name);                                                                               \
+        enum what what = meet(#name);                                                                                            \
+        if (what == FAIL) {                                                                                                      \
+            errno = value;                                                                                                       \
+            return (result)-1;                                                                                                   \
+        }                                                                                                                        \
+        if (what == SKIP)                                                                                                        \
+            return 0;                                                                                                            \
+        result got = next arguments;                                                                                             \
+        leave(what);                                                                                                             \
+        return got;                                                                                                              \
     }
 
 WRAP(int, close, (int file), (file))
@@ -98,39 +98,39 @@ WRAP(int, fsetxattr, (int file, const char *name, const void *bytes, size_t size
 WRAP(int, sigprocmask, (int how, const sigset_t *restrict set, sigset_t *restrict old), (how, set, old))
 WRAP(int, sigaction, (int number, const struct sigaction *restrict act, struct sigaction *restrict old), (number, act, old))
 
-#define WRAP_BYTES(name, parameters, arguments, half_arguments)                                                                   \
-    ssize_t name parameters {                                                                                                     \
-        ssize_t(*next) parameters;                                                                                                \
-        *(void **)&next = dlsym(RTLD_NEXT, #name);                                                                                \
-        enum what what = meet(#name);                                                                                             \
-        if (what == FAIL) {                                                                                                       \
-            errno = value;                                                                                                        \
-            return -1;                                                                                                            \
-        }                                                                                                                         \
-        ssize_t got = (what == HALF || what == SHORT) && len > 1 ? next half_arguments : next arguments;                          \
-        leave(what);                                                                                                              \
-        return got;                                                                                                               \
+#define WRAP_BYTES(name, parameters, arguments, half_arguments)                                                                  \
+    ssize_t name parameters {                                                                                                    \
+        ssize_t(*next) parameters;                                                                                               \
+        *(void **)&next = dlsym(RTLD_NEXT, #name);                                                                               \
+        enum what what = meet(#name);                                                                                            \
+        if (what == FAIL) {                                                                                                      \
+            errno = value;                                                                                                       \
+            return -1;                                                                                                           \
+        }                                                                                                                        \
+        ssize_t got = (what == HALF || what == SHORT) && len > 1 ? next half_arguments : next arguments;                         \
+        leave(what);                                                                                                             \
+        return got;                                                                                                              \
     }
 
 WRAP_BYTES(write, (int file, const void *bytes, size_t len), (file, bytes, len), (file, bytes, len / 2))
 WRAP_BYTES(read, (int file, void *bytes, size_t len), (file, bytes, len), (file, bytes, len / 2))
 
-#define WRAP_OPEN(name, parameters, arguments)                                                                                    \
-    int name parameters {                                                                                                         \
-        int(*next) parameters;                                                                                                    \
-        *(void **)&next = dlsym(RTLD_NEXT, #name);                                                                                \
-        va_list more;                                                                                                             \
-        va_start(more, flags);                                                                                                    \
-        mode_t mode = (flags & O_CREAT) != 0 ? va_arg(more, mode_t) : 0;                                                          \
-        va_end(more);                                                                                                             \
-        enum what what = meet(#name);                                                                                             \
-        if (what == FAIL) {                                                                                                       \
-            errno = value;                                                                                                        \
-            return -1;                                                                                                            \
-        }                                                                                                                         \
-        int got = next arguments;                                                                                                 \
-        leave(what);                                                                                                              \
-        return got;                                                                                                               \
+#define WRAP_OPEN(name, parameters, arguments)                                                                                   \
+    int name parameters {                                                                                                        \
+        int(*next) parameters;                                                                                                   \
+        *(void **)&next = dlsym(RTLD_NEXT, #name);                                                                               \
+        va_list more;                                                                                                            \
+        va_start(more, flags);                                                                                                   \
+        mode_t mode = (flags & O_CREAT) != 0 ? va_arg(more, mode_t) : 0;                                                         \
+        va_end(more);                                                                                                            \
+        enum what what = meet(#name);                                                                                            \
+        if (what == FAIL) {                                                                                                      \
+            errno = value;                                                                                                       \
+            return -1;                                                                                                           \
+        }                                                                                                                        \
+        int got = next arguments;                                                                                                \
+        leave(what);                                                                                                             \
+        return got;                                                                                                              \
     }
 
 WRAP_OPEN(open, (const char *path, int flags, ...), (path, flags, mode))

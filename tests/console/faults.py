@@ -5,6 +5,7 @@ The program runs `run table.bin steps.bin -o FOLDER/target.bin` with the shim of
 Whatever happens, the target is afterwards the old file (or absent) or the new one, whole, with the old owner, group, mode and access list.
 
 fails      each call fails, with each of some errors: status 0 with the new file, or 2 with one line; nothing is left beside the target
+broken     the same with one error, for a program that takes its time
 killed     KILL before, after and in the middle of each call
 signals    INT, TERM and HUP before and after each call: the temporary file is removed, and the signal ends the program
 ignored    a signal that the program was started to ignore does not end it
@@ -134,6 +135,8 @@ def ignored():
 
 if CASE == "fails":
     each_call(["fail %d" % number for number in (errno.EIO, errno.ENOSPC, errno.EPERM)], judge_fail)
+elif CASE == "broken":
+    each_call(["fail %d" % errno.EIO], judge_fail)
 elif CASE == "killed":
     each_call(["%s %d" % (when, signal.SIGKILL) for when in ("before", "after", "half")], lambda story, ended, new: None)
 elif CASE == "signals":

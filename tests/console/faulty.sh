@@ -5,6 +5,8 @@ cp "$root/examples/table.bin" "$root/examples/steps.bin" .
 shim=$work/faults.so
 holds 'the shim is built' gcc -std=c11 -Wall -Wextra -Werror -O1 -shared -fPIC "$root/tests/console/faults.c" -o "$shim" -ldl
 holds 'a save with a failure at each call' "$python" "$root/tests/console/faults.py" fails "$program" "$shim"
+sanitizer=$(gcc -print-file-name=libasan.so)
+holds 'a save with a failure at each call, under the sanitizers' "$python" "$root/tests/console/faults.py" broken "$program-sanitized" "$sanitizer $shim"
 holds 'a save killed at each call' "$python" "$root/tests/console/faults.py" killed "$program" "$shim"
 holds 'a save ended by INT, TERM or HUP at each call' "$python" "$root/tests/console/faults.py" signals "$program" "$shim"
 holds 'a save that ignores INT, TERM or HUP' "$python" "$root/tests/console/faults.py" ignored "$program" "$shim"

@@ -1,7 +1,8 @@
 /* include/station_line_layout.h against the archive: layout RUNS.., each RUN the start of two names, RUN.table and RUN.steps.
  *
- * What the archive writes, the helpers read and write again to the same bytes; a block that they write is accepted; a block whose check
- * word or field is put wrong is refused with 3 or 4; a step that they write is done, or refused with 10, as its fields say. */
+ * What the archive writes, the helpers read and write again to the same bytes; a block that they write is accepted; a block whose
+ * check word or field is put wrong is refused with 3 or 4; a step that they write is done, or refused with 10, as its fields say.
+ */
 #include <stdio.h>
 #include <stdlib.h>
 #include <string.h>
@@ -45,7 +46,8 @@ static void circle(const char *run) {
         expect(memcmp(again, bytes, sizeof again) == 0, "a block of the archive is written to other bytes", run);
         expect(block.check == station_line_check_word(bytes), "another check word", run);
     }
-    for (size_t at = 0; at + STATION_LINE_STEP_BYTES <= steps_len && steps_len <= STATION_LINE_STEPS_BYTES; at += STATION_LINE_STEP_BYTES) {
+    for (size_t at = 0; at + STATION_LINE_STEP_BYTES <= steps_len && steps_len <= STATION_LINE_STEPS_BYTES;
+         at += STATION_LINE_STEP_BYTES) {
         uint8_t again[STATION_LINE_STEP_BYTES];
         station_line_write_step(again, station_line_read_step(steps + at));
         expect(memcmp(again, steps + at, sizeof again) == 0, "a step is written to other bytes", run);
@@ -129,10 +131,13 @@ static void steps_by_hand(void) {
 int main(int argc, char **argv) {
     expect(strcmp(station_line_version(), STATION_LINE_VERSION) == 0, "is not that of the library", "the header's version");
     expect(strcmp(station_line_words(STATION_LINE_CHECK_WORD), "a check fails") == 0, "other words", "3");
-    expect(strcmp(station_line_words(16), station_line_words(17)) != 0 && strcmp(station_line_words(17), station_line_words(UINT32_MAX)) == 0,
+    expect(strcmp(station_line_words(16), station_line_words(17)) != 0 &&
+               strcmp(station_line_words(17), station_line_words(UINT32_MAX)) == 0,
            "no words of its own", "16");
-    expect(STATION_LINE_TABLE_BYTES == STATION_LINE_MOST_STATIONS * STATION_LINE_BLOCK_BYTES, "is not so many blocks", "the longest table");
-    expect(STATION_LINE_STEPS_BYTES == STATION_LINE_MOST_STEPS * STATION_LINE_STEP_BYTES, "is not so many steps", "the longest list");
+    expect(STATION_LINE_TABLE_BYTES == STATION_LINE_MOST_STATIONS * STATION_LINE_BLOCK_BYTES, "is not so many blocks",
+           "the longest table");
+    expect(STATION_LINE_STEPS_BYTES == STATION_LINE_MOST_STEPS * STATION_LINE_STEP_BYTES, "is not so many steps",
+           "the longest list");
     made_by_hand();
     steps_by_hand();
     for (int k = 1; k < argc; k++)
