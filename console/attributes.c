@@ -21,8 +21,9 @@ static bool free_after(void *bytes, bool good) {
     return good;
 }
 
+/* Access lists of every kind are attributes of the system. */
 static bool is_kept(const char *name) {
-    return strcmp(name, access_list) == 0 || strncmp(name, "user.", 5) == 0;
+    return strncmp(name, "system.", 7) == 0 || strncmp(name, "user.", 5) == 0;
 }
 
 static bool keep_one(int new_file, int old_file, const char *name) {

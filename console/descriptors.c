@@ -3,6 +3,7 @@
 
 #include <errno.h>
 #include <fcntl.h>
+#include <signal.h>
 #include <unistd.h>
 
 bool write_whole(int file, const uint8_t *bytes, size_t len) {
@@ -16,6 +17,17 @@ bool write_whole(int file, const uint8_t *bytes, size_t len) {
         done += (size_t)put;
     }
     return true;
+}
+
+bool write_to_reader(int file, const uint8_t *bytes, size_t len) {
+    struct sigaction ignored = {0}, before;
+    ignored.sa_handler = SIG_IGN;
+    bool changed = sigaction(SIGPIPE, &ignored, &before) == 0, good = write_whole(file, bytes, len);
+    int first = errno;
+    if (changed)
+        (void)sigaction(SIGPIPE, &before, NULL);
+    errno = first;
+    return good;
 }
 
 bool close_after(int file, bool good) {

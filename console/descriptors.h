@@ -10,6 +10,9 @@
 /* All of the bytes, in as many writes as it takes. */
 bool write_whole(int file, const uint8_t *bytes, size_t len);
 
+/* The same to a pipe or a device. A reader that has gone is an error like any other, and not the end of the program. */
+bool write_to_reader(int file, const uint8_t *bytes, size_t len);
+
 /* Closes the file whatever came before and keeps the first failure. */
 bool close_after(int file, bool good);
 

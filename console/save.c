@@ -92,7 +92,7 @@ static enum saved write_as_it_stands(const char *path, const uint8_t *bytes, siz
     int file = open(path, O_WRONLY | O_NOCTTY | O_CLOEXEC);
     if (file < 0)
         return unsaved(why, "it can't be opened", errno);
-    if (!close_after(file, write_whole(file, bytes, len)))
+    if (!close_after(file, write_to_reader(file, bytes, len)))
         return unsaved(why, "it can't be written", errno);
     return SAVED;
 }

@@ -10,6 +10,7 @@ killed     KILL before, after and in the middle of each call
 signals    INT, TERM and HUP before and after each call: the temporary file is removed, and the signal ends the program
 ignored    a signal that the program was started to ignore does not end it
 short      a read or write that does half is gone on with
+reader     a pipe whose reader goes away before the write: status 2 with one line
 """
 import errno
 import os
@@ -133,6 +134,20 @@ def ignored():
             judge_done(story, ended, look(story, True, dress()))
 
 
+def reader():
+    """The program stops itself before the write; meanwhile the reader goes."""
+    os.mkfifo("pipe")
+    end = os.open("pipe", os.O_RDONLY | os.O_NONBLOCK)
+    environment = dict(os.environ, LD_PRELOAD=SHIM, FAULT_CALL="write", FAULT_AT="1", FAULT_DO="before %d" % signal.SIGSTOP)
+    program = subprocess.Popen([PROGRAM] + WORDS[:-1] + ["pipe"], env=environment, stdout=subprocess.PIPE, stderr=subprocess.PIPE, text=True)
+    os.waitid(os.P_PID, program.pid, os.WSTOPPED)
+    os.close(end)
+    os.kill(program.pid, signal.SIGCONT)
+    printed, said = program.communicate(timeout=60)
+    if (program.returncode, printed, said) != (2, "", "station-line: pipe: not written: it can't be written: Broken pipe\n"):
+        wrong.append("status %d, %r, %r" % (program.returncode, printed, said))
+
+
 if CASE == "fails":
     each_call(["fail %d" % number for number in (errno.EIO, errno.ENOSPC, errno.EPERM)], judge_fail)
 elif CASE == "broken":
@@ -144,6 +159,8 @@ elif CASE == "signals":
     each_call(["%s %d" % (when, number) for when in ("before", "after") for number in numbers], judge_signal)
 elif CASE == "ignored":
     ignored()
+elif CASE == "reader":
+    reader()
 elif CASE == "short":
     each_call(["short 0"], judge_done)
 for line in wrong:

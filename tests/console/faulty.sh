@@ -10,6 +10,7 @@ holds 'a save with a failure at each call, under the sanitizers' "$python" "$roo
 holds 'a save killed at each call' "$python" "$root/tests/console/faults.py" killed "$program" "$shim"
 holds 'a save ended by INT, TERM or HUP at each call' "$python" "$root/tests/console/faults.py" signals "$program" "$shim"
 holds 'a save that ignores INT, TERM or HUP' "$python" "$root/tests/console/faults.py" ignored "$program" "$shim"
+holds 'a pipe whose reader has gone' "$python" "$root/tests/console/faults.py" reader "$program" "$shim"
 holds 'a save with short reads and writes' "$python" "$root/tests/console/faults.py" short "$program" "$shim"
 
 # faulty CALL AT ERRNO OUT ERR: the call of that name, for the AT-th time, fails

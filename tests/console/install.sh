@@ -68,7 +68,7 @@ if command -v pkg-config > /dev/null; then
     gcc -std=c11 -Wall -Wextra -Wpedantic -Werror manual.c $(pkg-config --cflags --libs station-line) -o manual
     holds 'with the shared library' [ "$(LD_LIBRARY_PATH=$installed/lib64 ./manual)" = 'no refusal, 0 stations left' ]
     holds 'it is the shared one' eval '! ./manual 2> /dev/null'
-    gcc -std=c11 -static manual.c $(pkg-config --cflags --libs --static station-line) -o manual
+    gcc -std=c11 manual.c $(pkg-config --cflags station-line) "$installed/lib64/libstation_line.a" -o manual
     holds 'with the archive' [ "$(./manual)" = 'no refusal, 0 stations left' ]
     end
     unset PKG_CONFIG_PATH PKG_CONFIG_SYSROOT_DIR
