@@ -34,13 +34,16 @@ def layers(paths):
 
 
 def functions(paths):
+    """From the line that begins at the margin to the brace that stands there alone."""
     long = []
     for path in paths:
+        start = 0
         with open(path, encoding="utf-8") as text:
-            for found in re.finditer(r"^[a-z][^\n;{}]*\)\s*\{\n(.*?)^\}", text.read(), re.M | re.S):
-                lines = found.group(0).count("\n") + 1
-                if lines > 40:
-                    long.append("%s: %d lines: %s" % (path, lines, found.group(0).split("\n")[0]))
+            for at, line in enumerate(text.read().split("\n")):
+                if line == "}" and at - start >= 40:
+                    long.append("%s:%d: %d lines" % (path, start + 1, at - start + 1))
+                elif line and line[0] not in " }#/*":
+                    start = at
     return long
 
 

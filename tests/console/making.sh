@@ -52,9 +52,9 @@ if [ -z "$(PATH=/usr/bin:/bin command -v rt)" ]; then
 fi
 holds 'nothing of make run goes unseen' eval '! grep -n "/dev/null" "$root/Makefile" "$root/examples/run"'
 group 'the clock of make test, soak and fuzz'
-EVERY=1 "$root/tests/timed" trial 5 sleep 3 > "$got.out" 2> "$got.err"
+SECONDS=100 EVERY=1 "$root/tests/timed" trial 5 sleep 3 > "$got.out" 2> "$got.err"
 holds 'status' [ $? -eq 0 ]
-holds 'what is left' grep -q '^trial: 2 seconds so far, about 3 left$' "$got.err"
+holds 'what is left' grep -qx 'trial: [1-4] seconds so far, about [1-4] left' "$got.err"
 holds 'nothing on standard output' [ ! -s "$got.out" ]
 "$root/tests/timed" trial 5 sh -c 'exit 7' 2> "$got.err"
 holds 'the status of the command' [ $? -eq 7 ]
