@@ -95,6 +95,8 @@ int assemble_command(const struct arguments *arguments) {
     bool table = strcmp(what, "table") == 0;
     if (!table && strcmp(what, "steps") != 0)
         return say_wrong_use("assemble", what, "'table' or 'steps' is expected");
+    if (strcmp(out, "-") != 0 && is_same_file(path, out))
+        return tell_saved(out, UNSAVED, (struct reason){"it is the text", 0});
     char *bytes = malloc(TEXT_BYTES + 1);
     if (bytes == NULL) {
         say_trouble(name_of(path), "no memory is left");

@@ -38,7 +38,7 @@ static void print_damaged(const uint8_t *bytes, size_t len, size_t block) {
     (void)printf("# block %zu at %zu\n", block + 1, start);
     for (uint32_t number = FIRST_FAULT; number <= LAST_FAULT; number++)
         find_in_block(bytes, len, block, number, print_place, NULL);
-    print_rows(bytes, start + 20 + 8 * station_line_held(&fields), start + 510, false);
+    print_rows(bytes, start + 20 + 8 * station_line_bag_size(&fields), start + 510, false);
     print_station(stdout, &fields);
 }
 

@@ -2,7 +2,7 @@
 
 bool has_received(const struct station_line_block *before, const struct station_line_block *after,
                   struct station_line_message *message) {
-    for (size_t k = 0; k < station_line_held(after); k++)
+    for (size_t k = 0; k < station_line_bag_size(after); k++)
         if (copies(after, after->messages[k]) > copies(before, after->messages[k])) {
             *message = after->messages[k];
             return true;

@@ -111,7 +111,7 @@ static void find_zeros(const struct search *search, const char *field, size_t fr
 }
 
 static void find_fields(const struct search *search) {
-    size_t held = station_line_held(&search->fields);
+    size_t held = station_line_bag_size(&search->fields);
     find_head(search);
     for (size_t k = 0; k < held; k++)
         find_message(search, k);
@@ -139,7 +139,7 @@ static void find_unknown(const struct search *search) {
         found(search, "left", 8, "is %u, which has no block", (unsigned)fields->left);
     if (is_unknown(search, fields->right))
         found(search, "right", 12, "is %u, which has no block", (unsigned)fields->right);
-    for (size_t k = 0; k < station_line_held(fields); k++) {
+    for (size_t k = 0; k < station_line_bag_size(fields); k++) {
         const struct station_line_message *message = &fields->messages[k];
         char name[32];
         name_message(name, sizeof name, k);

@@ -4,6 +4,7 @@
 #include <errno.h>
 #include <fcntl.h>
 #include <string.h>
+#include <sys/stat.h>
 #include <unistd.h>
 
 #include "station_line.h"
@@ -14,6 +15,13 @@ static bool is_standard(const char *path) {
 
 const char *name_of(const char *path) {
     return is_standard(path) ? "standard input" : path;
+}
+
+bool is_same_file(const char *path, const char *other) {
+    struct stat a, b;
+    if ((is_standard(path) ? fstat(STDIN_FILENO, &a) : stat(path, &a)) != 0 || stat(other, &b) != 0)
+        return false;
+    return S_ISREG(a.st_mode) && a.st_dev == b.st_dev && a.st_ino == b.st_ino;
 }
 
 /* Reads until the room is full or the file ends; false with errno set where a read fails. */

@@ -17,6 +17,9 @@ bool read_table(const char *path, uint8_t *table, size_t *len, struct reason *wh
 bool read_steps(const char *path, uint8_t *steps, size_t *len, struct reason *why);
 bool read_text(const char *path, uint8_t *text, size_t *len, struct reason *why);
 
+/* Whether what is read from `path` is the very file that stands under `other`; of pipes and devices it is not asked. */
+bool is_same_file(const char *path, const char *other);
+
 /* How what is said of a file calls it. */
 const char *name_of(const char *path);
 

@@ -23,7 +23,7 @@ void print_station(FILE *out, const struct station_line_block *block) {
     print_neighbour(out, block->left);
     print_neighbour(out, block->right);
     (void)fputs((block->flags & STATION_LINE_LEAVING) != 0 ? " leave" : " stay", out);
-    for (size_t k = 0; k < station_line_held(block); k++)
+    for (size_t k = 0; k < station_line_bag_size(block); k++)
         (void)fprintf(out, " %s", message_text(block->messages[k].kind, block->messages[k].number).text);
     (void)fputc('\n', out);
 }

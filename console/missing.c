@@ -4,7 +4,7 @@
 
 static void put_held(struct parts *parts, const struct station_line_block *own) {
     next_part(parts);
-    if (station_line_held(own) == 0) {
+    if (station_line_bag_size(own) == 0) {
         (void)fprintf(parts->out, "the bag of %u is empty", (unsigned)own->station);
         return;
     }
@@ -15,7 +15,7 @@ static void put_held(struct parts *parts, const struct station_line_block *own) 
 /* NIDEC: "p's bag is empty and no other station has p as a neighbour or as an introduction in its bag" (document 01). */
 static void put_holders(struct parts *parts, const struct station_line_block *own, const struct snapshot *now) {
     const struct station_line_message introduction = {STATION_LINE_INTRODUCTION, 0, own->station};
-    if (station_line_held(own) > 0)
+    if (station_line_bag_size(own) > 0)
         put_held(parts, own);
     for (size_t k = 0; k < now->count; k++) {
         const struct station_line_block *other = &now->stations[k];
@@ -57,7 +57,7 @@ static void put_full(struct parts *parts, struct station_line_step step, const s
         uint32_t station = after.stations[k].station;
         const struct station_line_block *receiver = find_station(now, station), *before = find_station(&emptied, station);
         struct station_line_message message;
-        if (receiver == NULL || before == NULL || station_line_held(receiver) < STATION_LINE_MOST_MESSAGES ||
+        if (receiver == NULL || before == NULL || station_line_bag_size(receiver) < STATION_LINE_MOST_MESSAGES ||
             !has_received(before, &after.stations[k], &message))
             continue;
         next_part(parts);

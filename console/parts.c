@@ -13,7 +13,7 @@ void put_message(struct parts *parts, struct station_line_message message) {
 
 void put_bag(struct parts *parts, const struct station_line_block *station) {
     const char *separator = "";
-    for (size_t k = 0; k < station_line_held(station); k++) {
+    for (size_t k = 0; k < station_line_bag_size(station); k++) {
         size_t many = copies(station, station->messages[k]);
         if (!is_first_copy(station, k))
             continue;

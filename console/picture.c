@@ -29,7 +29,7 @@ static bool is_introduction(const struct station_line_block *station, size_t k) 
 }
 
 static bool is_full(const struct station_line_block *station) {
-    return station_line_held(station) == STATION_LINE_MOST_MESSAGES;
+    return station_line_bag_size(station) == STATION_LINE_MOST_MESSAGES;
 }
 
 static bool is_leaving(const struct station_line_block *station) {
@@ -45,7 +45,7 @@ static bool is_drawn(struct choice choice, uint32_t from, uint32_t to) {
 static bool has_link(const struct station_line_block *from, uint32_t to, struct choice choice) {
     if (from->left == to || from->right == to)
         return true;
-    for (size_t k = 0; k < station_line_held(from) && !choice.only_neighbours; k++)
+    for (size_t k = 0; k < station_line_bag_size(from) && !choice.only_neighbours; k++)
         if (is_introduction(from, k) && from->messages[k].number == to)
             return true;
     return false;
@@ -82,8 +82,8 @@ static void print_label(const struct station_line_block *station) {
     (void)printf("%u%s", (unsigned)station->station, is_leaving(station) ? " leaving" : "");
     print_waiting(station, STATION_LINE_REMOVE_LEFT, "l", "\\n");
     print_waiting(station, STATION_LINE_REMOVE_RIGHT, "r", left ? " " : "\\n");
-    if (station_line_held(station) > 0)
-        (void)printf("\\n%zu/%d", station_line_held(station), STATION_LINE_MOST_MESSAGES);
+    if (station_line_bag_size(station) > 0)
+        (void)printf("\\n%zu/%d", station_line_bag_size(station), STATION_LINE_MOST_MESSAGES);
 }
 
 static void print_node(const struct station_line_block *station, size_t place) {
@@ -117,7 +117,7 @@ static void print_arrows(const struct snapshot *snapshot, size_t place, struct c
         print_arrow(snapshot, place, station->left, false, 1);
     if (station->right != 0 && is_drawn(choice, station->station, station->right))
         print_arrow(snapshot, place, station->right, false, 1);
-    for (size_t k = 0; k < station_line_held(station) && !choice.only_neighbours; k++)
+    for (size_t k = 0; k < station_line_bag_size(station) && !choice.only_neighbours; k++)
         if (is_introduction(station, k) && is_first_copy(station, k) &&
             is_drawn(choice, station->station, station->messages[k].number))
             print_arrow(snapshot, place, station->messages[k].number, true, copies(station, station->messages[k]));

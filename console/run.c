@@ -102,6 +102,8 @@ int run_command(const struct arguments *arguments) {
         return say_wrong_use("run", "-o -", "standard output takes the listing");
     if (output.path == NULL && output.all_or_nothing)
         return say_wrong_use("run", "--all-or-nothing", "goes with -o");
+    if (output.path != NULL && is_same_file(input.steps_path, output.path))
+        return tell_saved(output.path, UNSAVED, (struct reason){"it is the step list", 0});
     int status = read_input(&input);
     return status == DONE ? run(&input, output) : status;
 }

@@ -26,7 +26,7 @@ static bool alike(struct station_line_message a, struct station_line_message b) 
 
 size_t copies(const struct station_line_block *station, struct station_line_message message) {
     size_t found = 0;
-    for (size_t k = 0; k < station_line_held(station); k++)
+    for (size_t k = 0; k < station_line_bag_size(station); k++)
         found += alike(station->messages[k], message) ? 1 : 0;
     return found;
 }

@@ -74,7 +74,7 @@ static inline uint16_t station_line_check_word(const uint8_t *bytes) {
 }
 
 /* The places that may be looked at: `count`, but never more than there are. */
-static inline size_t station_line_held(const struct station_line_block *block) {
+static inline size_t station_line_bag_size(const struct station_line_block *block) {
     return block->count < STATION_LINE_MOST_MESSAGES ? block->count : (size_t)STATION_LINE_MOST_MESSAGES;
 }
 
@@ -109,7 +109,7 @@ static inline void station_line_write_block(uint8_t *bytes, const struct station
     station_line_put32(bytes + 12, block->right);
     station_line_put16(bytes + 16, block->count);
     station_line_put16(bytes + 18, block->reserved);
-    for (k = 0; k < station_line_held(block); k++) {
+    for (k = 0; k < station_line_bag_size(block); k++) {
         station_line_put16(bytes + 20 + 8 * k, block->messages[k].kind);
         station_line_put16(bytes + 22 + 8 * k, block->messages[k].gap);
         station_line_put32(bytes + 24 + 8 * k, block->messages[k].number);

@@ -33,6 +33,19 @@ unwritten 'a socket' socket 'it is neither a file, a pipe nor a character device
 rm -f socket dangling
 files=$(ls -A)
 
+# A list or a text is not lost to what is made from it.
+group 'not written: over the step list or the text'
+cp steps.bin list.bin && ln list.bin same.bin && cp stations.txt text.txt
+for name in list.bin ./list.bin same.bin; do
+    try "run: $name" 2 '' "station-line: $name: not written: it is the step list"$'\n' run table.bin list.bin -o "$name"
+done
+input=list.bin try 'run: from a pipe' 2 '' $'station-line: list.bin: not written: it is the step list\n' run table.bin - -o list.bin
+try 'assemble' 2 '' $'station-line: text.txt: not written: it is the text\n' assemble table text.txt -o text.txt
+input=text.txt try 'assemble: from a pipe' 2 '' $'station-line: text.txt: not written: it is the text\n' assemble table - -o text.txt
+holds 'both stand' eval 'same list.bin ../steps.bin && same text.txt ../stations.txt'
+rm list.bin same.bin text.txt
+end
+
 # A disk that fills up half way, by a limit of 1,024 bytes for a file.
 for sentence in 'run table.bin steps.bin -o table.bin' 'assemble table stations.txt -o table.bin' 'run table.bin steps.bin -o fresh.bin'; do
     group "a disk that fills up half way: $sentence"
