@@ -2,8 +2,8 @@
 use Prim.Native.Nat.{ℕ, zero, suc, _+_, _≤_, _<_}
 use mathlib.Core.Path.{_≡_, refl, sym, ap, _∙_}
 use mathlib.Core.Logic.{⊎-elim}
-use mathlib.Core.Bool.{Bool, true, false, _||_, or-false, or-true, or-assoc}
-use mathlib.Core.List.{List, [], _∷_, _++_}
+use mathlib.Core.Bool.{Bool, true, false, _||_, or-false, or-true}
+use mathlib.Core.List.{List, [], _∷_}
 use native.Mathlib.Nat.{le-of-suc-le-suc, not-suc-le-zero, eq-or-lt-of-le}
 use native.Mathlib.Numerals.{add-one}
 use native.Mathlib.Omega.{arith}
@@ -11,7 +11,7 @@ use lib.Dec.{eqb}
 use lib.ListN.{length, getD, drop}
 use Rattle.lists.specs.Lists.{any}
 use Rattle.lists.specs.Places.{firstAt}
-use Rattle.lists.proofs.Lists.{sort-any}
+use Rattle.lists.proofs.Lists.{any-append, sort-any}
 use Rattle.line.specs.declared.Content.the-variants.{Introduction, RemoveLeft, RemoveRight}
 use Rattle.line.specs.declared.Message.{Message}
 use Rattle.line.specs.declared.Station as declared
@@ -45,13 +45,8 @@ module _ (p : ℕ) (m : Message) where
   is-remove-right e = rw e
 
 -- Whether some of the first n messages passes a test.
-any-append : {A : Type 0} (f : A → Bool) (a b : List A) → any f (a ++ b) ≡ (any f a || any f b)
-unfolding any
-any-append f [] b = refl
-any-append f (x ∷ a) b = ap (λ (t : Bool). f x || t) (any-append f a b) ∙ sym (or-assoc (f x) (any f a) (any f b))
-
 module _ (f : Message → Bool) (b : List ℕ) where
-  any-suc : (n : ℕ) → any f (messages b (suc n)) ≡ (any f (messages b n) || f (messageOf (placeAt b n)))
+  pub any-suc : (n : ℕ) → any f (messages b (suc n)) ≡ (any f (messages b n) || f (messageOf (placeAt b n)))
   unfolding messages any
   any-suc n = any-append f (messages b n) (messageOf (placeAt b n) ∷ []) ∙ ap (λ (t : Bool). any f (messages b n) || t) (or-false (f (messageOf (placeAt b n))))
 

@@ -5,13 +5,19 @@ use mathlib.Core.Bool.{Bool, true, false}
 use Prim.Native.Nat.{ℕ}
 use native.Mathlib.Omega.{arith}
 use Rattle.line.specs.declared.Refusal.{Refusal}
-use Rattle.line.specs.Answer.{Answer, refused, done, _>>=_, require}
+use Rattle.line.specs.Answer.{Answer, refused, done, isDone, _>>=_, require}
+use Rattle.lists.proofs.Lists.{clash}
 
 pub done-inj : {A : Type 0} {a b : A} → done a ≡ done b → a ≡ b
 done-inj e = cc
 
 pub refused-done : {A C : Type 0} {r : Refusal} {a : A} → refused r ≡ done a → C
 refused-done e = absurd (let z : _≡_ {A = ℕ} 0 1 = cc in omega arith)
+
+pub is-done : {A : Type 0} (x : Answer A) → isDone x ≡ true → (a : A) × (x ≡ done a)
+unfolding isDone
+is-done (refused r) e = clash e refl
+is-done (done a) e = (a, refl)
 
 -- what was done after something was done before it
 pub bound : {A B : Type 0} (x : Answer A) (f : A → Answer B) {b : B} → (x >>= f) ≡ done b → (a : A) × (x ≡ done a) × (f a ≡ done b)

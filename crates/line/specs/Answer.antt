@@ -25,6 +25,11 @@ pub data Answer (A : Type 0) : Type 0 where
   refused : Refusal → Answer A
   done : A → Answer A
 
+-- it is what was asked for
+unfoldable pub isDone : {A : Type 0} → Answer A → Bool
+isDone (refused r) = false
+isDone (done a) = true
+
 -- the first refusal ends the work
 infixl 20 _>>=_
 unfoldable pub _>>=_ : {A B : Type 0} → Answer A → (A → Answer B) → Answer B

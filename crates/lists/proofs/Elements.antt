@@ -22,6 +22,10 @@ member-at [] i d h = absurd (not-suc-le-zero h)
 member-at (x ∷ l) zero d h = here refl
 member-at (x ∷ l) (suc i) d h = there (member-at l i d (le-of-suc-le-suc h))
 
+pub member-place : {A : Type 0} (d : A) {l : List A} {x : A} → Member x l → (i : ℕ) × (i < length l) × (getD l i d ≡ x)
+member-place d (here e) = (0, omega arith, sym e)
+member-place d (there m) = let w = member-place d m in (suc (w .0), omega arith, w .2)
+
 pub map-at : {A B : Type 0} (g : A → B) (l : List A) (i : ℕ) (c : A) (d : B) → i < length l → getD (map g l) i d ≡ g (getD l i c)
 map-at g [] i c d h = absurd (not-suc-le-zero h)
 map-at g (x ∷ l) zero c d h = refl

@@ -1,7 +1,7 @@
 -- Laws of tests, membership, insertion and removal, over any element type.
 use mathlib.Core.Path.{_≡_, refl, sym, _∙_, ap}
 use mathlib.Core.Logic.{_⊎_, inl, inr, ⊎-elim}
-use mathlib.Core.Bool.{Bool, true, false, cond, _&&_, _||_, and-assoc}
+use mathlib.Core.Bool.{Bool, true, false, cond, _&&_, _||_, and-assoc, or-assoc}
 use mathlib.Core.List.{List, [], _∷_, _++_, map, List·Memᴰ·not-nil, List·Memᴰ·cases-cons}
 use mathlib.Core.List.{List·Memᴰ as Member, List·Memᴰ·head as here, List·Memᴰ·tail as there}
 use Prim.Native.Nat.{ℕ, suc, _+_, _≤_}
@@ -85,6 +85,11 @@ module _ {A : Type 0} (f : A → Bool) where
       go : (t : Bool) → f y ≡ t → 1 ≤ cond t 1 0 + count f l → (1 ≤ count f l → (x : A) × Member x l × (f x ≡ true)) → (x : A) × Member x (y ∷ l) × (f x ≡ true)
       go true e h r = (y, here refl, e)
       go false e h r = let w = r (omega arith) in (w .0, there (w .1), w .2)
+
+pub any-append : {A : Type 0} (f : A → Bool) (a b : List A) → any f (a ++ b) ≡ (any f a || any f b)
+unfolding any
+any-append f [] b = refl
+any-append f (x ∷ a) b = ap (λ (t : Bool). f x || t) (any-append f a b) ∙ sym (or-assoc (f x) (any f a) (any f b))
 
 pub all-append : {A : Type 0} (f : A → Bool) (a b : List A) → all f (a ++ b) ≡ (all f a && all f b)
 unfolding all

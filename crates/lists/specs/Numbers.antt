@@ -7,10 +7,10 @@ use mathlib.Core.List.{List·Memᴰ as Member}
 use lib.Dec.{eqb, ltb}
 use Rattle.lists.specs.Lists.{all}
 
--- each number stands in a relation to every number behind it
-abbrev pub Pairwise : (ℕ → ℕ → Type 0) → List ℕ → Type 0
+-- each element stands in a relation to every element behind it
+abbrev pub Pairwise : {A : Type 0} → (A → A → Type 0) → List A → Type 0
 Pairwise R [] = Unit {0}
-Pairwise R (n ∷ l) = ((k : ℕ) → Member k l → R n k) × Pairwise R l
+Pairwise {A} R (x ∷ l) = ((y : A) → Member y l → R x y) × Pairwise R l
 
 -- numbers rise strictly
 abbrev pub Rising : List ℕ → Type 0

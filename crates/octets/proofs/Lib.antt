@@ -5,3 +5,4 @@ pub mod Endian
 pub mod Sums
 pub mod Zeros
 pub mod Overwritten
+pub mod Written

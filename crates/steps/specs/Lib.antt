@@ -1,2 +1,3 @@
--- What a reader must believe of a step list.
+-- What a reader must believe of a step list, in reading order.
 pub mod Steps
+pub mod Claims

@@ -1,7 +1,7 @@
 -- The step list (document 01, "The step list").
 use Prim.Native.Nat.{ℕ, _+_, _*_, _/_}
 use mathlib.Core.Bool.{cond, _&&_}
-use mathlib.Core.List.{List, map}
+use mathlib.Core.List.{List, [], _∷_, _++_, map}
 use lib.Dec.{eqb}
 use lib.ListN.{length}
 use Rattle.line.specs.declared.Action.{Action}
@@ -10,7 +10,9 @@ use Rattle.line.specs.declared.Reading.{Reading}
 use Rattle.line.specs.declared.Reading.the-variants.{Step, Refused}
 use Rattle.line.specs.declared.Refusal.the-variants.{Malformed}
 use Rattle.line.specs.Accepted.{inRange}
-use Rattle.octets.specs.Bytes.{word, quad}
+use Rattle.line.specs.declared.Step as declared
+use Rattle.line.specs.Message.{kind, carried}
+use Rattle.octets.specs.Bytes.{word, quad, le16, le32}
 use Rattle.fields.specs.declared.Place.{Place}
 use Rattle.fields.specs.declared.Place.the-variants.{Good, Bad}
 use Rattle.fields.specs.Fields.{placeOf}
@@ -48,3 +50,27 @@ stepAt l k = stepOf (word l (12 * k)) (word l (12 * k + 2)) (quad l (12 * k + 4)
 -- the steps of a list, in order
 unfoldable pub stepsOf : List ℕ → List Reading
 stepsOf l = map (stepAt l) (range 0 (length l / 12))
+
+-- The same record written: "1 timeout, 2 deliver, 3 exit", beside a delivery's kind and number and a 0 in their places for the others.
+abbrev pub actionNumber : Action → ℕ
+actionNumber Timeout = 1
+actionNumber (Deliver m) = 2
+actionNumber Exit = 3
+
+abbrev pub kindBeside : Action → ℕ
+kindBeside Timeout = 0
+kindBeside (Deliver m) = kind (m .content)
+kindBeside Exit = 0
+
+abbrev pub numberBeside : Action → ℕ
+numberBeside Timeout = 0
+numberBeside (Deliver m) = carried (m .content)
+numberBeside Exit = 0
+
+unfoldable pub stepBytes : declared.Step → List ℕ
+stepBytes x = le16 (actionNumber (x .action)) ++ (le16 (kindBeside (x .action)) ++ (le32 (x .station) ++ le32 (numberBeside (x .action))))
+
+-- one step after another
+unfoldable pub listBytes : List declared.Step → List ℕ
+listBytes [] = []
+listBytes (x ∷ l) = stepBytes x ++ listBytes l

@@ -1,4 +1,6 @@
-// A step of 12 bytes (document 01, "The step list").
+// A step of 12 bytes, read and written (document 01, "The step list").
+use bag::carried;
+use bag::kind;
 use fields::Place;
 use fields::in_range;
 use fields::place_of;
@@ -8,10 +10,14 @@ use line::Refusal;
 use line::Step;
 use octets::quad_at;
 use octets::word_at;
+use octets::write_quad;
+use octets::write_word;
 ghost use mathlib.Core.Path.{_≡_};
+ghost use mathlib.Core.List.{_++_};
 ghost use Prim.Native.Nat.{_+_, _*_, _≤_};
 ghost use lib.ListN.{length};
 ghost use Rattle.fields.specs.Fields.{placeOf};
+ghost use Rattle.octets.specs.Bytes.{le16, le32, overwrite};
 ghost use Rattle.steps.specs.Steps as spec;
 
 fn malformed() -> Reading
@@ -78,4 +84,32 @@ pub fn read_step(steps: &[u8], k: usize) -> Reading
         quad_at(steps, at + 4),
         quad_at(steps, at + 8),
     )
+}
+
+// The four fields of a step, one behind the other.
+fn write_fields(room: &mut [u8], at: usize, action: u16, kind: u16, station: u32, number: u32)
+    requires { ⌜ at + 12 ≤ length (now room) ⌝ }
+    ensures { λ _. ⌜ now (room .exit) ≡ overwrite at (le16 action ++ (le16 kind ++ (le32 station ++ le32 number))) (now (room .entry)) ⌝ }
+{
+    write_word(room, at, action);
+    write_word(room, at + 2, kind);
+    write_quad(room, at + 4, station);
+    write_quad(room, at + 8, number);
+}
+
+// A step at an index of a room.
+pub fn write_step(room: &mut [u8], at: usize, step: Step)
+    requires { ⌜ at + 12 ≤ length (now room) ⌝ }
+    ensures { λ _. ⌜ now (room .exit) ≡ overwrite at (spec.stepBytes step) (now (room .entry)) ⌝ }
+{
+    let station = step.station;
+    let action = step.action;
+    match action {
+        Action::Timeout => write_fields(room, at, 1, 0, station, 0),
+        Action::Deliver(message) => {
+            let content = message.content;
+            write_fields(room, at, 2, kind(content), station, carried(content));
+        }
+        Action::Exit => write_fields(room, at, 3, 0, station, 0),
+    }
 }

@@ -1,21 +1,21 @@
 -- What is written is accepted and read back as it was.
 use mathlib.Core.Path.{_≡_, refl, ap, _∙_, subst}
 use mathlib.Core.Bool.{true}
-use mathlib.Core.List.{List, _∷_, _++_, append-assoc, List·Memᴰ}
+use mathlib.Core.List.{List, _++_, append-assoc, List·Memᴰ}
 use Prim.Native.Nat.{ℕ, zero, suc, _+_, _-_, _*_, _%_, _≤_, _<_}
 use native.Mathlib.Omega.{arith}
 use borrow.Author.Tests.{eq-eqb, ne-eqb, le-leb}
 use lib.ListN.{length, getD, take, drop, length-append}
-use lib.Seq.{take-suc, split-at, length-take-le, take-length}
+use lib.Seq.{take-suc, length-take-le, take-length}
 use Rattle.line.specs.declared.Neighbour.{Neighbour}
 use Rattle.line.specs.declared.Neighbour.the-variants.{None, Station}
 use Rattle.line.specs.declared.Side.the-variants.{Left, Right}
 use Rattle.line.specs.declared.Content.{Content}
-use Rattle.line.specs.declared.Content.the-variants.{Introduction, RemoveLeft, RemoveRight}
+use Rattle.line.specs.declared.Content.the-variants.{Introduction}
 use Rattle.line.specs.declared.Message.{Message}
 use Rattle.line.specs.Message.{kind, carried, introduction}
 use Rattle.line.specs.Node.{Node}
-use Rattle.line.specs.Accepted.{inRange}
+use Rattle.line.proofs.AcceptedTest.{in-range}
 use Rattle.line.specs.Marks.{flags, reserved, marksFrom}
 use Rattle.line.proofs.MarkWords.{flags-low, reserved-same, flags-hold, reserved-hold, marks-back}
 use Rattle.lists.proofs.Elements.{member-at}
@@ -25,12 +25,13 @@ use Rattle.octets.proofs.Sums.{sum-append}
 use Rattle.octets.proofs.Zeros.{zeros-written}
 use Rattle.fields.specs.declared.Place.the-variants.{Good, Bad}
 use Rattle.block.specs.Layout.{checkHolds, placeAt, placesHold, messages, headerHolds, restHolds, fieldsHold, stationOf, nodeOf, faultOf}
-use Rattle.fields.specs.Fields.{placeOf, messageOf, neighbourOf}
+use Rattle.fields.specs.Fields.{messageOf, neighbourOf}
+use Rattle.fields.proofs.Contents.{Introduces, content-back, kind-low, carried-low}
 use Rattle.writing.specs.Encoding.{neighbourNumber, placeBytes, placesBytes, header, encode}
 use Rattle.writing.specs.Claims.{Ranged, Writable, WrittenLength, WrittenReadsBack}
-use Rattle.writing.proofs.WritingLaws.{length-placesBytes, places-append, length-header, restZeros, body, encoded, length-body}
+use Rattle.writing.proofs.WritingLaws.{length-placesBytes, places-split, length-header, restZeros, body, encoded, length-body}
 
--- A neighbour and a message: to the numbers that say them, and back.
+-- A neighbour, to the number that says it, and back.
 neighbour-back : (n : Neighbour) → ((q : ℕ) → n ≡ Station q → Ranged q) → neighbourOf (neighbourNumber n) ≡ n
 unfolding neighbourOf
 neighbour-back None h = refl
@@ -40,26 +41,6 @@ neighbour-low : (n : Neighbour) → ((q : ℕ) → n ≡ Station q → Ranged q)
 neighbour-low None h = omega arith
 neighbour-low (Station q) h = h q refl .1
 
-in-range : (n : ℕ) → Ranged n → inRange n ≡ true
-unfolding inRange
-in-range n r = rw (le-leb 1 n (r .0), le-leb n 999999 (r .1))
-
-content-back : (t : Content) → ((q : ℕ) → t ≡ Introduction q → Ranged q) → placeOf (kind t) 0 (carried t) ≡ Good (record { content = t })
-unfolding placeOf
-content-back (Introduction n) h = rw (in-range n (h n refl))
-content-back RemoveLeft h = refl
-content-back RemoveRight h = refl
-
-kind-low : (t : Content) → kind t < 65536
-kind-low (Introduction n) = omega arith
-kind-low RemoveLeft = omega arith
-kind-low RemoveRight = omega arith
-
-carried-low : (t : Content) → ((q : ℕ) → t ≡ Introduction q → Ranged q) → carried t < 4294967296
-carried-low (Introduction n) h = let r = h n refl in omega arith
-carried-low RemoveLeft h = omega arith
-carried-low RemoveRight h = omega arith
-
 -- A message place between any bytes.
 place-back : (p s : List ℕ) (m : Message) (i : ℕ) → length p ≡ 20 + 8 * i → ((q : ℕ) → m .content ≡ Introduction q → Ranged q)
     → placeAt (p ++ (placeBytes m ++ s)) i ≡ Good m
@@ -67,6 +48,7 @@ unfolding placeAt placeBytes
 place-back p s m i e h =
     let k = kind (m .content) in
     let n = carried (m .content) in
+    let ranged : Introduces (m .content) = λ q j. in-range q .1 (h q j) in
     let number = le32 n ++ s in
     let gap = le16 0 ++ number in
     let a : word (p ++ (le16 k ++ gap)) (20 + 8 * i) ≡ k = word-written k (20 + 8 * i) p gap e (kind-low (m .content)) in
@@ -74,8 +56,8 @@ place-back p s m i e h =
     rw (append-assoc p (le16 k) gap) at (word-written 0 (22 + 8 * i) (p ++ le16 k) number (omega (arith, length-append p (le16 k))) (omega arith)) in
     let c : quad (p ++ (le16 k ++ gap)) (24 + 8 * i) ≡ n =
     rw (append-assoc p (le16 k ++ le16 0) number) at
-    (quad-written n (24 + 8 * i) (p ++ (le16 k ++ le16 0)) s (omega (arith, length-append p (le16 k ++ le16 0))) (carried-low (m .content) h)) in
-    rw (a, b, c) (content-back (m .content) h)
+    (quad-written n (24 + 8 * i) (p ++ (le16 k ++ le16 0)) s (omega (arith, length-append p (le16 k ++ le16 0))) (carried-low (m .content) ranged)) in
+    rw (a, b, c) (content-back (m .content) ranged)
 
 -- The places behind 20 bytes.
 module _ (p s : List ℕ) (ms : List Message) (e : length p ≡ 20) (h : (q : ℕ) → List·Memᴰ (introduction q) ms → Ranged q) where
@@ -85,7 +67,7 @@ module _ (p s : List ℕ) (ms : List Message) (e : length p ≡ 20) (h : (q : �
       let m = getD ms k d in
       let before = placesBytes (take k ms) in
       let after = placesBytes (drop (suc k) ms) in
-      let split : placesBytes ms ≡ before ++ (placeBytes m ++ after) = ap placesBytes (split-at ms k d l) ∙ places-append (take k ms) (m ∷ drop (suc k) ms) in
+      let split : placesBytes ms ≡ before ++ (placeBytes m ++ after) = places-split ms k d l in
       let n : length (p ++ before) ≡ 20 + 8 * k = omega (arith, length-append p before, length-placesBytes (take k ms), length-take-le k ms (omega arith)) in
       let r : (q : ℕ) → m .content ≡ Introduction q → Ranged q =
       λ q i. h q (subst (λ (t : Content). List·Memᴰ (record { content = t }) ms) i (member-at ms k d l)) in
@@ -214,7 +196,7 @@ module _ (s : Node) (w : Writable s) where
         reserved-back s w after,
         flags-hold (s .station .marks) (w .marked),
         reserved-hold (s .station .marks) (w .marked),
-        in-range (s .station .number) (w .numbered),
+        in-range (s .station .number) .1 (w .numbered),
         le-leb (neighbourNumber (s .station .left)) 999999 (neighbour-low (s .station .left) (left-in s w after)),
         le-leb (neighbourNumber (s .station .right)) 999999 (neighbour-low (s .station .right) (right-in s w after)),
         le-leb n 32 (w .small),

@@ -8,21 +8,17 @@ use borrow.Author.Tests.{eqb-true}
 use lib.Dec.{eqb}
 use lib.ListN.{length, drop, replicate, replicate-append-replicate, drop-of-length-le}
 use Rattle.line.specs.declared.Neighbour.the-variants.{None, Station}
-use Rattle.line.specs.declared.Content.the-variants.{Introduction, RemoveLeft, RemoveRight}
 use Rattle.line.specs.declared.Message.{Message}
-use Rattle.line.specs.Message.{kind, carried}
 use Rattle.line.specs.Node.{Node}
 use Rattle.line.proofs.MarkWords.{flags-same, reserved-same}
-use Rattle.line.specs.Accepted.{inRange}
 use Rattle.octets.specs.Bytes.{word, quad, le16, le32, sumWords, AreBytes}
 use Rattle.octets.proofs.Both.{and-left, and-right}
 use Rattle.octets.proofs.Endian.{word-read, quad-read}
 use Rattle.octets.proofs.Sums.{sum-append, sum-step, sum-end}
 use Rattle.octets.proofs.Zeros.{zeros-read}
-use Rattle.fields.specs.declared.Place.{Place}
-use Rattle.fields.specs.declared.Place.the-variants.{Good, Bad}
 use Rattle.block.specs.Layout.{checkHolds, placeAt, placesHold, messages, stationOf, nodeOf, faultOf}
-use Rattle.fields.specs.Fields.{placeOf, isGood, messageOf, neighbourOf}
+use Rattle.fields.specs.Fields.{isGood, messageOf, neighbourOf}
+use Rattle.fields.proofs.Contents.{Says, place-says}
 use Rattle.writing.specs.Encoding.{neighbourNumber, placeBytes, placesBytes, header}
 use Rattle.writing.specs.Claims.{RewrittenSame}
 use Rattle.block.proofs.FieldLaws.{no-fault, FieldFacts, field-facts}
@@ -38,39 +34,7 @@ neighbour-same n = go (eqb n 0) refl
     go true e = rw e (sym (eqb-true n 0 e))
     go false e = rw e
 
--- A good place says its kind, a gap of zero and its number.
-record Says (k gap n : ℕ) (m : Message) : Type 0 where
-  kind-is : kind (m .content) ≡ k
-  gap-is : gap ≡ 0
-  number-is : carried (m .content) ≡ n
-
-never : _≡_ {A = Bool} false true → ⊥
-never h = let z : _≡_ {A = ℕ} 0 1 = cc in omega arith
-
--- what the tests of a place pick
-abbrev picked : ℕ → Bool → Bool → Bool → Bool → Bool → Bool → Place
-picked n g one fits none two three =
-    cond g
-    (cond one (cond fits (Good (record { content = Introduction n })) Bad)
-    (cond none (cond two (Good (record { content = RemoveLeft })) (cond three (Good (record { content = RemoveRight })) Bad)) Bad))
-    Bad
-
-picked-says : (k gap n : ℕ) (g one fits none two three : Bool) → eqb gap 0 ≡ g → eqb k 1 ≡ one → eqb n 0 ≡ none → eqb k 2 ≡ two → eqb k 3 ≡ three
-    → isGood (picked n g one fits none two three) ≡ true → Says k gap n (messageOf (picked n g one fits none two three))
-picked-says k gap n true true true none two three eg e1 e0 e2 e3 h = record { kind-is = sym (eqb-true k 1 e1); gap-is = eqb-true gap 0 eg; number-is = refl }
-picked-says k gap n true false fits true true three eg e1 e0 e2 e3 h =
-    record { kind-is = sym (eqb-true k 2 e2); gap-is = eqb-true gap 0 eg; number-is = sym (eqb-true n 0 e0) }
-picked-says k gap n true false fits true false true eg e1 e0 e2 e3 h =
-    record { kind-is = sym (eqb-true k 3 e3); gap-is = eqb-true gap 0 eg; number-is = sym (eqb-true n 0 e0) }
-picked-says k gap n true true false none two three eg e1 e0 e2 e3 h = absurd (never h)
-picked-says k gap n true false fits true false false eg e1 e0 e2 e3 h = absurd (never h)
-picked-says k gap n true false fits false two three eg e1 e0 e2 e3 h = absurd (never h)
-picked-says k gap n false one fits none two three eg e1 e0 e2 e3 h = absurd (never h)
-
-place-says : (k gap n : ℕ) → isGood (placeOf k gap n) ≡ true → Says k gap n (messageOf (placeOf k gap n))
-unfolding placeOf
-place-says k gap n h = picked-says k gap n (eqb gap 0) (eqb k 1) (inRange n) (eqb n 0) (eqb k 2) (eqb k 3) refl refl refl refl refl h
-
+-- A good place says its bytes.
 said-bytes : (k gap n : ℕ) (m : Message) → Says k gap n m → placeBytes m ≡ le16 k ++ (le16 gap ++ le32 n)
 unfolding placeBytes
 said-bytes k gap n m t = rw (t .kind-is, t .gap-is, t .number-is)

@@ -1,7 +1,7 @@
 -- The writers side by side: what they leave together, up to the whole block.
 use mathlib.Core.Path.{_≡_, refl, sym, ap, _∙_}
 use mathlib.Core.List.{List, [], _∷_, _++_, append-assoc, append-nil}
-use Prim.Native.Nat.{ℕ, _+_, _-_, _*_, _%_, _≤_, _<_}
+use Prim.Native.Nat.{ℕ, suc, _+_, _-_, _*_, _%_, _≤_, _<_}
 use native.Mathlib.Numerals.{add-one}
 use native.Mathlib.Omega.{arith}
 use lib.ListN.{length, take, drop, getD, replicate, length-append, length-drop, length-replicate, replicate-append-replicate}
@@ -17,6 +17,7 @@ use Rattle.bag.proofs.Laws.{held-room, held-size}
 use Rattle.octets.specs.Bytes.{le16, le32, sumWords, overwrite}
 use Rattle.octets.proofs.Overwritten.{overwrite-none, overwrite-next, overwrite-at}
 use Rattle.octets.proofs.Sums.{sum-append}
+use Rattle.lists.proofs.Concat.{joined-append, joined-split, joined-size}
 use Rattle.lists.proofs.Filling.{drop-replicate}
 use Rattle.writing.specs.Encoding.{neighbourNumber, placeBytes, placesBytes, header, withCheck, encode}
 
@@ -58,16 +59,18 @@ unfolding header
 header-written s b l f left right n r x =
     x ∙ (λ i. overwrite 0 (le16 1 ++ (le16 (f i) ++ (le32 (s .number) ++ (le32 (left i) ++ (le32 (right i) ++ (le16 (n .is i) ++ le16 (r i))))))) l)
 
+-- a place is 8 bytes, and the places stand one after the other
 pub length-placesBytes : (ms : List Message) → length (placesBytes ms) ≡ 8 * length ms
 unfolding placesBytes placeBytes
-length-placesBytes [] = refl
-length-placesBytes (m ∷ ms) = omega (arith, length-placesBytes ms)
+length-placesBytes = joined-size placeBytes placesBytes refl (λ m l. refl) 8 (λ m. refl)
 
--- the places of two lists of messages stand one after the other
 pub places-append : (a b : List Message) → placesBytes (a ++ b) ≡ placesBytes a ++ placesBytes b
 unfolding placesBytes
-places-append [] b = refl
-places-append (m ∷ a) b = rw (places-append a b, append-assoc)
+places-append = joined-append placeBytes placesBytes refl (λ m l. refl)
+
+pub places-split : (l : List Message) (k : ℕ) (d : Message) → k < length l → placesBytes l ≡ placesBytes (take k l) ++ (placeBytes (getD l k d) ++ placesBytes (drop (suc k) l))
+unfolding placesBytes
+places-split = joined-split placeBytes placesBytes refl (λ m l. refl)
 
 -- the room keeps its length
 length-overwrite : (i : ℕ) (vs l : List ℕ) → i + length vs ≤ length l → length (overwrite i vs l) ≡ length l
