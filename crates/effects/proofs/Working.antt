@@ -214,14 +214,15 @@ module _ {line : Line} {x : declared.Step} {i : ℕ} {nidecHolds : Bool} {d : De
       step-full e = committed ∙ require-false _ Full _ e
 
       module _ (fit : (roomFor one a && roomFor two b) ≡ true) where
-        fits : step line x ≡ done (sendAll (bothSent (d .sendings)) (replace (number here-is) (effect d left .after) line))
-        fits = committed ∙ require-true _ Full _ fit
+        -- nothing refuses the step
+        pub step-fits : step line x ≡ done (sendAll (bothSent (d .sendings)) (replace (number here-is) (effect d left .after) line))
+        step-fits = committed ∙ require-true _ Full _ fit
 
         -- the station stays
         pub step-stays : d .gone ≡ false → step line x ≡ done both-posted
         unfolding replace
         step-stays e =
-            fits
+            step-fits
             ∙ ap (λ (g : Bool). done (sendAll (bothSent (d .sendings)) (replace (number here-is) (cond g none (some (record { station = d .station; bag = left }))) line))) e
             ∙ ap (λ (l : Line). done (sendAll (bothSent (d .sendings)) l))
             (change-at (number here-is) (λ (t : Node). record { station = d .station; bag = left }) line i nobody (k .sound .written .rising) (k .within) refl)
@@ -236,7 +237,7 @@ module _ {line : Line} {x : declared.Step} {i : ℕ} {nidecHolds : Bool} {d : De
             let same : numbers after ≡ numbers line = send-numbers (bothSent (d .sendings)) stored ∙ stored-numbers in
             let n = number here-is in
             let at : number (place after i) ≡ n = sym (map-at number after i nobody 0 (after-within after same)) ∙ ap (λ (l : List ℕ). getD l i 0) same ∙ map-at number line i nobody 0 (k .within) in
-            fits
+            step-fits
             ∙ ap (λ (g : Bool). done (sendAll (bothSent (d .sendings)) (replace n (cond g none (some (record { station = d .station; bag = left }))) line))) e
             ∙ ap (λ (l : Line). done (sendAll (bothSent (d .sendings)) l)) (gone-first ∙ sym gone-stored)
             ∙ ap done (sym (send-without n (bothSent (d .sendings)) stored) ∙ without-at n after i nobody (rw same (k .sound .written .rising)) (after-within after same) at)

@@ -12,7 +12,8 @@ use Rattle.line.specs.declared.Step.{Step}
 use Rattle.bag.specs.declared.Taken.{Taken}
 use Rattle.bag.proofs.Laws.{length-mapped}
 use Rattle.arrays.specs.Arrays.{Arrays, lineIn}
-use Rattle.effects.proofs.Effects.{plan-asks, Planned, first-room, leaves, second-room, stays, planned-by, refuses}
+use Rattle.effects.proofs.Judging.{plan-asks, refuses}
+use Rattle.effects.proofs.Effects.{Planned, first-room, leaves, second-room, stays, planned-by}
 use Rattle.running.proofs.Ending.{finish-asks, ends-as}
 use Rattle.effects.proofs.Stores.{consistent-taken, Arrived, arrived-one, withBags, arrived-none, BetweenSteps, OwnStored, withStation, own-taken, own-untaken}
 use Rattle.effects.proofs.Underway.{Underway, underway-start, underway-absent, underway-end, underway-malformed, underway-refused, underway-next}
@@ -168,7 +169,7 @@ returns-3 c = let e : tie.After-plan Inv-loop2 μ-loop2 Inv-loop μ-loop = searc
     let t = turn e in
     let r = read (found (walked e)) in
     ends-as (t .before .loop .inv) (c .before .before .finish3 .ensures)
-    (underway-refused (t .before .loop .inv) (t .loop-test .taken) (the-step e) (r .before .before .read-step .ensures) (r .reading .given .1) (refuses (worked e) (c .before .before .before .before .before .verdict .given .1)))
+    (underway-refused (t .before .loop .inv) (t .loop-test .taken) (the-step e) (r .before .before .read-step .ensures) (r .reading .given .1) (refuses (worked e .judged) (c .before .before .before .before .before .verdict .given .1)))
 
 put-in-requires : tie.Need-put-in-requires Inv-loop2 μ-loop2 Inv-loop μ-loop
 put-in-requires c κs = let o : tie.Joined4 Inv-loop2 μ-loop2 Inv-loop μ-loop = search in first-room (worked (planned o)) (told o .enum-told2 .given .1) _ _ (own-stored o) _ _ (c .before .before .before .one .given .1)
