@@ -62,3 +62,7 @@ module _ {index : List ℕ} {q low lowest size : ℕ} (left : Halved index q low
       let a = left .at in
       let only : (k : ℕ) → k < length (numbersIn index) → getD (numbersIn index) k 0 ≡ q → k ≡ low = λ k b f. omega (arith, left .only k b f) in
       sym (first-none q (numbersIn index) (λ k b f. e (ap (λ (x : ℕ). x / 64) (a ∙ ap (λ (j : ℕ). getD index j 0) (sym (only k b f))) ∙ sym (number-at index k) ∙ f)) ∙ numbers-length index)
+
+-- a place that has the number is where it stands
+pub near-found : (index : List ℕ) (q : ℕ) {near : ℕ} → Rising (numbersIn index) → near < length index → getD index near 0 / 64 ≡ q → near ≡ firstAt (eqb q) (numbersIn index)
+near-found index q {near} r h e = sym (first-at q (numbersIn index) near r (omega (arith, numbers-length index)) (number-at index near ∙ e))

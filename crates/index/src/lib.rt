@@ -1,9 +1,9 @@
 // An index of stations by their numbers: numbers of 64 bits, 64 times the station number plus the slot where the station stands, in rising
 // order (document 01, "The block": "blocks by rising station number"; "The numbers a crew may see", 6 and 7).
 ghost use mathlib.Core.Path.{_≡_};
-ghost use Prim.Native.Nat.{_-_, _<_, _≤_};
+ghost use Prim.Native.Nat.{_+_, _-_, _<_, _≤_};
 ghost use lib.Dec.{eqb};
-ghost use lib.ListN.{take};
+ghost use lib.ListN.{length, take};
 ghost use Rattle.lists.specs.Lists.{any};
 ghost use Rattle.lists.specs.Places.{removeAt, firstAt};
 ghost use Rattle.lists.specs.Numbers as numbers;
@@ -51,6 +51,36 @@ pub fn lookup(index: &[u64], q: u32) -> usize
         size -= half;
     }
     if lowest / 64 == number { low } else { n }
+}
+
+// The place beside i, below it or above; below the first place there is none, and that place is given.
+fn beside(i: usize, below: bool) -> usize
+    requires { ⌜ i < 18446744073709551615 ⌝ }
+    ensures { λ r. ⌜ r ≤ i + 1 ⌝ }
+{
+    if below {
+        if i == 0 {
+            return 0;
+        }
+        return i - 1;
+    }
+    i + 1
+}
+
+// The same for a station that knows q: the place beside its own, on the side where q lies, is looked at first, since neighbours mostly stand
+// side by side.
+pub fn lookup_near(index: &[u64], q: u32, i: usize) -> usize
+    requires { ⌜ numbers.Rising (numbersIn (now index)) × (i < length (now index)) ⌝ }
+    ensures { λ r. ⌜ r ≡ firstAt (eqb q) (numbersIn (now (index .entry))) ⌝ }
+{
+    let number = q as u64;
+    let near = beside(i, number < index[i] / 64);
+    if near < index.len() {
+        if index[near] / 64 == number {
+            return near;
+        }
+    }
+    lookup(index, q)
 }
 
 // Whether station q has an entry.

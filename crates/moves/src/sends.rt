@@ -3,7 +3,7 @@
 use crate::Plan;
 use bag::Bag;
 use bag::Taken;
-use index::lookup;
+use index::lookup_near;
 use line::Action;
 use line::Message;
 use line::Refusal;
@@ -27,7 +27,7 @@ fn receiver(index: &[u64], sending: Sending, i: usize) -> usize
     match sending {
         Sending::Nothing => (index[i] % 64) as usize,
         Sending::To(q, _) => {
-            let j = lookup(index, q);
+            let j = lookup_near(index, q, i);
             if j < index.len() {
                 (index[j] % 64) as usize
             } else {
