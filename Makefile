@@ -26,15 +26,24 @@ SONAME = libstation_line.so.$(firstword $(subst ., ,$(VERSION)))
 # The library for C, as an archive and as a shared library: the proved functions, and the words and the version in plain C.
 all: target/lib/libstation_line.a target/lib/libstation_line.so
 
-target/staticlib/libstation_line.a: crates.txt $(shell find crates -name '*.rt' -o -name '*.antt')
-	@rt staticlib station_line
+# Each of the two crates of the C interface is compiled by itself (docs/DECISIONS.md); then they are one archive.
+target/staticlib/lib%.a: crates.txt $(shell find crates -name '*.rt' -o -name '*.antt')
+	@rt staticlib $*
+
+target/staticlib/libstation_line_filled.a: | target/staticlib/libstation_line.a
+
+target/proved/libstation_line.a: target/staticlib/libstation_line.a target/staticlib/libstation_line_filled.a
+	@mkdir -p $(@D)
+	@cp $< $@.new
+	@cd $(@D) && $(AR) x ../staticlib/libstation_line_filled.a && $(AR) rs libstation_line.a.new station_line_filled.o
+	@mv $@.new $@
 
 target/lib/%.o: library/%.c $(HEADERS)
 	@mkdir -p $(@D)
 	$(COMPILE) -fPIC -c $< -o $@
 
-target/lib/libstation_line.a: target/staticlib/libstation_line.a target/lib/words.o target/lib/version.o
-	@cp target/staticlib/libstation_line.a $@.new
+target/lib/libstation_line.a: target/proved/libstation_line.a target/lib/words.o target/lib/version.o
+	@cp $< $@.new
 	$(AR) rs $@.new target/lib/words.o target/lib/version.o
 	@mv $@.new $@
 

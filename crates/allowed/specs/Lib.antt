@@ -1,0 +1,2 @@
+-- What the parts of the list promise one another.
+pub mod Parts

@@ -1,0 +1,2 @@
+-- Laws of filling.
+pub mod Filling

@@ -1,0 +1,2 @@
+-- What a reader must believe of the C interface of the functions that fill a room.
+pub mod Interface
