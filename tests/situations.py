@@ -10,6 +10,8 @@ are kept in the repository (outputs.py: or writes them below another folder).
 A case in cases.bin is three numbers of 32 bits (length of the table, of the step list, of the room), the table and the
 step list. A line of questions.txt is a case, `leave` and a station or `line`, the number answered and yes (1) or no (0),
 which is 0 at every number but 0; it is asked of the table of the case as it is before the run.
+
+first_steps.py takes the reading and the tables from here; nothing is written then.
 """
 import struct
 
@@ -620,25 +622,26 @@ for title, table, number in tables.cases:
 
 # ---- what is written ----
 
-put("crates/situations/data/cases.bin",
-    b"".join(struct.pack("<III", len(table), len(steps), room) + table + steps for _, table, steps, room, _, _ in cases))
-put("crates/situations/stdout",
-    "".join("\n".join(["case %d" % k] + lines + ["rest kept"]) + "\n" for k, (_, _, _, _, _, lines) in enumerate(cases, 1)))
+if __name__ == "__main__":
+    put("crates/situations/data/cases.bin",
+        b"".join(struct.pack("<III", len(table), len(steps), room) + table + steps for _, table, steps, room, _, _ in cases))
+    put("crates/situations/stdout",
+        "".join("\n".join(["case %d" % k] + lines + ["rest kept"]) + "\n" for k, (_, _, _, _, _, lines) in enumerate(cases, 1)))
 
-yes = {"leave": 0, "line": 0}
-asked, questions = [], []
-for k, (_, table, _, _, _, _) in enumerate(cases, 1):
-    if table in asked:
-        continue
-    asked.append(table)
-    present = sorted(read_table(table)) if check(table) == 0 else [5]
-    for p in present + [q for q in (0, 6, 1000000, 4294967295) if q not in present]:
-        number, answer = may_leave(table, p)
-        questions.append("%d leave %d %d %d\n" % (k, p, number, answer))
-        yes["leave"] += answer
-    number, answer = in_line(table)
-    questions.append("%d line %d %d\n" % (k, number, answer))
-    yes["line"] += answer
-put("tests/questions.txt", "".join(questions))
-print("%d cases, %d exits in the long run, %d stations after it" % (len(cases), exits, len(line)))
-print("questions of %d tables, yes to leave %d, to line %d" % (len(asked), yes["leave"], yes["line"]))
+    yes = {"leave": 0, "line": 0}
+    asked, questions = [], []
+    for k, (_, table, _, _, _, _) in enumerate(cases, 1):
+        if table in asked:
+            continue
+        asked.append(table)
+        present = sorted(read_table(table)) if check(table) == 0 else [5]
+        for p in present + [q for q in (0, 6, 1000000, 4294967295) if q not in present]:
+            number, answer = may_leave(table, p)
+            questions.append("%d leave %d %d %d\n" % (k, p, number, answer))
+            yes["leave"] += answer
+        number, answer = in_line(table)
+        questions.append("%d line %d %d\n" % (k, number, answer))
+        yes["line"] += answer
+    put("tests/questions.txt", "".join(questions))
+    print("%d cases, %d exits in the long run, %d stations after it" % (len(cases), exits, len(line)))
+    print("questions of %d tables, yes to leave %d, to line %d" % (len(asked), yes["leave"], yes["line"]))

@@ -1,12 +1,15 @@
 // Step lists run over tables, the thirteen situations of document 01 among them (tests/situations.py makes them). The file cases.bin
 // holds cases: the lengths of a table, of a step list and of a room in four bytes each, then the table and the step list. For each case
 // its place in the file is printed, the listing of its run, and whether the room past the table written is as it was.
+use cases::fill;
+use cases::print_place;
+use cases::print_rest;
+use cases::read_part;
 use engine::run;
 use libc::STDOUT_FILENO;
 use text::write_listing;
 ghost use Prim.Native.Nat.{_≤_};
 ghost use lib.ListN.{length};
-ghost use Rattle.io.specs.Counts.{Counts};
 
 struct Head {
     table: usize,
@@ -30,53 +33,6 @@ fn next_head(fd: i32) -> Head {
         steps: octets::quad_at(&head, 4) as usize,
         room: octets::quad_at(&head, 8) as usize,
     }
-}
-
-// Every byte becomes 165.
-fn fill(room: &mut [u8]) {
-    let mut i = 0;
-    while i < room.len() {
-        room[i] = 165;
-        i += 1;
-    }
-}
-
-// Whether every byte is 165.
-fn is_kept(rest: &[u8]) -> bool {
-    let mut i = 0;
-    while i < rest.len() {
-        if rest[i] != 165 {
-            return false;
-        }
-        i += 1;
-    }
-    true
-}
-
-// Reads n bytes into the front of the room; how many there were is returned, 0 where n is more than the room has.
-fn read_part(fd: i32, room: &mut [u8], n: usize) -> usize
-    ensures { λ r. ⌜ Counts r (now (room .exit)) ⌝ }
-{
-    if room.len() < n {
-        return 0;
-    }
-    io::read_full(fd, &mut room[..n])
-}
-
-// The line with a case's place in the file.
-fn print_place(place: u64) {
-    io::write_all(STDOUT_FILENO, b"case ");
-    io::print_decimal(STDOUT_FILENO, place);
-    io::write_all(STDOUT_FILENO, b"\n");
-}
-
-// Whether the bytes past the table written are as they were.
-fn print_rest(rest: &[u8]) {
-    if is_kept(rest) {
-        io::write_all(STDOUT_FILENO, b"rest kept\n");
-        return;
-    }
-    io::write_all(STDOUT_FILENO, b"rest changed\n");
 }
 
 // Runs the list and prints the listing; how much of the room the table written takes is returned.

@@ -6,7 +6,7 @@ use Prim.Native.Nat.{_≤_}
 use mathlib.Core.List.{_++_}
 use lib.ListN.{length, drop}
 use lib.Seq.{length-take-le}
-use Rattle.situations.proofs.Front.{within-whole}
+use Rattle.cases.proofs.Front.{within-whole}
 use Rattle.situations.proofs.print_case.Statement.{statement}
 use Rattle.situations.proofs.print_case.Tie as tie
 

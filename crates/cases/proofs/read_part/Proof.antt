@@ -5,9 +5,9 @@ use mathlib.Core.Path.{sym}
 use denote.Ref.{now}
 use lib.ListN.{drop}
 use lib.Seq.{length-take-le}
-use Rattle.situations.proofs.Front.{within-whole, taken-of-whole}
-use Rattle.situations.proofs.read_part.Statement.{statement}
-use Rattle.situations.proofs.read_part.Tie as tie
+use Rattle.cases.proofs.Front.{within-whole, taken-of-whole}
+use Rattle.cases.proofs.read_part.Statement.{statement}
+use Rattle.cases.proofs.read_part.Tie as tie
 
 slice-aggregate-read-full : tie.Need-slice-aggregate-read-full
 slice-aggregate-read-full c = sym (length-take-le _ _ (omega arith))

@@ -2,8 +2,8 @@
 use borrow.Author.Needs.{needs}
 use Prim.Native.Nat.{_-_, _≤_}
 use lib.ListN.{length}
-use Rattle.situations.proofs.is_kept.Statement.{statement}
-use Rattle.situations.proofs.is_kept.Tie as tie
+use Rattle.cases.proofs.is_kept.Statement.{statement}
+use Rattle.cases.proofs.is_kept.Tie as tie
 
 abbrev Inv-loop : tie.InvT-loop
 Inv-loop rest i₀ i = i ≤ length rest
