@@ -1,4 +1,5 @@
-/* The station line: checks a table of ground stations, runs a step list over it, and answers two questions about it.
+/* The station line: checks a table of ground stations, runs a step list over it, lists what may happen next, and answers two
+ * questions about it.
  *
  * Every function takes any bytes and any numbers, ends, and gives the answer fixed for its input; none keeps anything between
  * calls, allocates, or reads or writes anything but what it is handed. They may be called from several threads at once.
@@ -22,8 +23,8 @@ extern "C" {
 
 /* The version of this header; station_line_version() has that of the library that is linked. */
 #define STATION_LINE_VERSION_MAJOR 1
-#define STATION_LINE_VERSION_MINOR 1
-#define STATION_LINE_VERSION "1.1"
+#define STATION_LINE_VERSION_MINOR 2
+#define STATION_LINE_VERSION "1.2"
 
 /* Sizes. */
 #define STATION_LINE_BLOCK_BYTES 512
@@ -34,6 +35,8 @@ extern "C" {
 #define STATION_LINE_MOST_NUMBER 999999 /* of a station; the least is 1 */
 #define STATION_LINE_TABLE_BYTES 32768 /* the longest table, and room for what a run writes of any */
 #define STATION_LINE_STEPS_BYTES 49152 /* the longest step list */
+#define STATION_LINE_MOST_ALLOWED 2112 /* steps that may happen next: a timeout and 32 deliveries for each of 64 stations */
+#define STATION_LINE_ALLOWED_BYTES 25344 /* room for the list of these steps, of any table */
 
 /* The numbers. Where several apply, the smallest is given, whatever the order of the blocks. */
 enum {
@@ -46,7 +49,7 @@ enum {
     STATION_LINE_TWICE = 6,           /* two blocks with one station number */
     STATION_LINE_UNKNOWN = 7,         /* a neighbour or introduction names a station without a block */
     STATION_LINE_LIST_LENGTH = 8,     /* step list not a multiple of 12 bytes, or over 4,096 steps */
-    STATION_LINE_ROOM = 9,            /* room shorter than the table read */
+    STATION_LINE_ROOM = 9,            /* room shorter than the table read, or than the list of allowed steps */
     STATION_LINE_MALFORMED = 10,      /* malformed step */
     STATION_LINE_ABSENT = 11,         /* station not present */
     STATION_LINE_NOT_IN_BAG = 12,     /* message not in that bag */
@@ -58,6 +61,11 @@ enum {
 /* What a run returns: its number, the steps done before the first refused one, and the stations now. */
 struct station_line_ran {
     uint32_t answer, done, stations;
+};
+
+/* What a call that fills a list returns: its number and, where that is 0, the steps filled. Beside any other number filled is 0. */
+struct station_line_filled {
+    uint32_t answer, filled;
 };
 
 /* What a question returns: its number and, where that is 0, yes (1) or no (0). Beside any other number yes is 0. */
@@ -84,6 +92,15 @@ uint32_t station_line_check(const uint8_t *table, size_t table_len);
 struct station_line_ran station_line_run(const uint8_t *table, size_t table_len, const uint8_t *steps, size_t steps_len,
                                          uint8_t *room, size_t room_len);
 
+/* Lists every step that a run would accept as its first step from the table: by rising station number, and within a station the
+ * timeout, then the deliveries by kind and then by number, then the exit. Each stands there once, so copies of a message make one
+ * delivery. The list has at most 2,112 steps and is a step list as station_line_run() takes it.
+ *
+ * 1 to 7 of the table, or 9, exactly when the room is shorter than the list: filled is 0 and the whole room is as it was.
+ * 0: the list stands at the beginning of the room, 12 bytes for each of the filled steps; the bytes of the room past it are as
+ * they were. */
+struct station_line_filled station_line_allowed(const uint8_t *table, size_t table_len, uint8_t *room, size_t room_len);
+
 /* Whether NIDEC holds for a station, leaving mark or not: its bag is empty and no other station has it as a neighbour or as an
  * introduction in its bag. 1 to 7 of the table, 11 where no block has that number, or 0 with yes or no. */
 struct station_line_told station_line_may_leave(const uint8_t *table, size_t table_len, uint32_t station);
@@ -104,7 +121,7 @@ struct station_line_viewed station_line_view(const uint8_t *table, size_t table_
  * can't be read, has words too; a number without a meaning has words that say so. */
 const char *station_line_words(uint32_t number);
 
-/* The version of the library, as "1.1". */
+/* The version of the library, as "1.2". */
 const char *station_line_version(void);
 
 #ifdef __cplusplus

@@ -11,7 +11,7 @@ static const char *const words[] = {
     "two blocks with one station number",
     "a neighbour or introduction names a station without a block",
     "step list not a multiple of 12 bytes, or over 4,096 steps",
-    "room shorter than the table read",
+    "room shorter than the table read, or than the list of allowed steps",
     "malformed step",
     "station not present",
     "message not in that bag",
