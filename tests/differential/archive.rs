@@ -10,6 +10,13 @@ pub struct Ran {
 
 #[repr(C)]
 #[derive(Clone, Copy, Debug, PartialEq, Eq)]
+pub struct Filled {
+    pub answer: u32,
+    pub filled: u32,
+}
+
+#[repr(C)]
+#[derive(Clone, Copy, Debug, PartialEq, Eq)]
 pub struct Told {
     pub answer: u32,
     pub yes: u32,
@@ -34,6 +41,12 @@ unsafe extern "C" {
         room: *mut u8,
         room_len: usize,
     ) -> Ran;
+    fn station_line_allowed(
+        table: *const u8,
+        table_len: usize,
+        room: *mut u8,
+        room_len: usize,
+    ) -> Filled;
     fn station_line_may_leave(table: *const u8, table_len: usize, station: u32) -> Told;
     fn station_line_in_line(table: *const u8, table_len: usize) -> Told;
     fn station_line_view(table: *const u8, table_len: usize, position: usize) -> Viewed;
@@ -123,6 +136,11 @@ pub fn run(table: &Lent, steps: &Lent, room: &mut Lent) -> Ran {
             room_len,
         )
     }
+}
+
+pub fn allowed(table: &Lent, room: &mut Lent) -> Filled {
+    let room_len = room.len;
+    unsafe { station_line_allowed(table.pointer(), table.len, room.pointer_mut(), room_len) }
 }
 
 pub fn may_leave(table: &Lent, station: u32) -> Told {

@@ -2,11 +2,12 @@
 
 use model::{STEP, Table};
 
+use crate::crowded::crowded;
 use crate::random::Random;
 use crate::steps::{self, RULES};
-use crate::tables::{self, ANY, BLOCK, Wish};
+use crate::tables::{self, ANY, BLOCK, Block, Wish};
 
-pub const KINDS: [&str; 13] = [
+pub const KINDS: [&str; 14] = [
     "steps that are done",
     "a step refused by 10 to 15",
     "loose steps and any bytes as steps",
@@ -18,13 +19,15 @@ pub const KINDS: [&str; 13] = [
     "a short room",
     "departures",
     "two receivers, long runs",
+    "full bags",
     "one bit of a block turned",
     "one bit of a step turned",
 ];
 pub const RECEIVERS: usize = 10;
-const BLOCK_BIT: usize = 11;
-const STEP_BIT: usize = 12;
-const WEIGHTS: [usize; 11] = [25, 24, 8, 15, 8, 8, 2, 3, 3, 3, 1];
+const CROWDED: usize = 11;
+const BLOCK_BIT: usize = 12;
+const STEP_BIT: usize = 13;
+const WEIGHTS: [usize; 12] = [25, 24, 8, 15, 8, 8, 2, 3, 3, 3, 1, 1];
 
 /// Among the first cases every fourth one turns one bit: each bit of a block with the check word set right again and not, and
 /// each bit of a step several times.
@@ -105,6 +108,12 @@ pub fn draw(random: &mut Random, number: u64) -> Case {
             let most = *random.pick(&[300, 1000, 2000, 4096]);
             case.steps = steps::lively(random, &mut stations, most, &mut case.rules);
         }
+        CROWDED => {
+            let blocks = crowded(random);
+            let mut stations = with_blocks(random, &mut case, blocks);
+            let most = random.from_to(0, 12);
+            case.steps = steps::lively(random, &mut stations, most, &mut case.rules);
+        }
         BLOCK_BIT => {
             while case.table.is_empty() {
                 with_table(random, &mut case, FEW);
@@ -137,7 +146,11 @@ pub fn draw(random: &mut Random, number: u64) -> Case {
 
 /// An accepted table, mostly in no order; it is handed back as the model reads it.
 fn with_table(random: &mut Random, case: &mut Case, wish: Wish) -> Table {
-    let mut blocks = tables::accepted(random, wish);
+    let blocks = tables::accepted(random, wish);
+    with_blocks(random, case, blocks)
+}
+
+fn with_blocks(random: &mut Random, case: &mut Case, mut blocks: Vec<Block>) -> Table {
     if random.percent(75) {
         tables::shuffle(random, &mut blocks);
     }

@@ -2,6 +2,7 @@
 
 use model::STEP;
 
+use crate::allowed::{self, same_allowed};
 use crate::archive::{self, Lent, Told, Viewed, all_pattern};
 use crate::cases::{Case, KINDS, RECEIVERS};
 use crate::joined;
@@ -20,7 +21,7 @@ fn told(answer: Result<bool, u32>) -> Told {
     }
 }
 
-/// Prints what the model and the archive make of the case's run, for a replay.
+/// Prints what the model and the archive make of the case's run and of its list of allowed steps, for a replay.
 pub fn show(case: &Case) {
     println!(
         "{}: a table of {} bytes, a list of {} bytes, a room of {} bytes",
@@ -61,6 +62,7 @@ pub fn show(case: &Case) {
         }
         _ => println!("what it wrote is no table"),
     }
+    allowed::show(&table, &case.table);
 }
 
 /// Compares the archive with the model on every answer, count and byte; an error says where they differ.
@@ -74,7 +76,10 @@ pub fn compare(random: &mut Random, case: &Case, tally: &mut Tally) -> Result<()
     let written = wanted.written();
     tally.ran(&wanted, case);
     tally.compared(Comparison::Numbers, same_numbers(ran, &wanted))?;
-    tally.compared(Comparison::Room, same_room(&room, &written))?;
+    let same = same_room(&room, &written).map_err(|what| format!("run: {what}"));
+    tally.compared(Comparison::Room, same)?;
+    let listed = same_allowed(random, &table, &case.table, &mut tally.lists);
+    tally.compared(Comparison::Allowed, listed)?;
     let checked = same_check(&table, &case.table, tally);
     tally.compared(Comparison::Check, checked)?;
     let lined = same_line(&table, &case.table, tally);
@@ -109,14 +114,15 @@ fn same_numbers(ran: archive::Ran, wanted: &model::Ran) -> Result<(), String> {
     ))
 }
 
-fn same_room(room: &Lent, written: &[u8]) -> Result<(), String> {
-    let (table, rest) = room.bytes().split_at(written.len());
-    if table != written {
-        let at = table.iter().zip(written).position(|(a, b)| a != b);
-        return Err(format!("run: the table written differs at byte {at:?}"));
+/// Every byte of a room: what was to be written at its beginning, and the rest as it was.
+pub fn same_room(room: &Lent, written: &[u8]) -> Result<(), String> {
+    let (begin, rest) = room.bytes().split_at(written.len());
+    if begin != written {
+        let at = begin.iter().zip(written).position(|(a, b)| a != b);
+        return Err(format!("what was written differs at byte {at:?}"));
     }
     if !all_pattern(rest) {
-        return Err("run: a byte of the room past the table was touched".to_string());
+        return Err("a byte of the room past what was written was touched".to_string());
     }
     Ok(())
 }

@@ -5,9 +5,11 @@
 //! over all cases (tally.rs) and not the cases.
 #![deny(warnings)]
 
+mod allowed;
 mod archive;
 mod cases;
 mod compare;
+mod crowded;
 mod joined;
 mod random;
 mod steps;

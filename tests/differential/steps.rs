@@ -229,15 +229,15 @@ fn candidate(random: &mut Random, table: &Table, number: u32) -> Step {
     Step { station, action }
 }
 
-/// A step that finds a full bag: the exits are looked at first, since they are the rarest.
-fn full(random: &mut Random, table: &Table) -> Option<Step> {
+/// Every step that is refused since a bag that must receive is full.
+pub fn at_full_bags(table: &Table) -> Vec<Step> {
+    let mut found = Vec::new();
     if !table
         .values()
         .any(|station| model::copies(station) == model::MOST_MESSAGES)
     {
-        return None;
+        return found;
     }
-    let mut found = Vec::new();
     for (&station, held) in table {
         let mut try_step = |action| {
             let step = Step { station, action };
@@ -251,6 +251,12 @@ fn full(random: &mut Random, table: &Table) -> Option<Step> {
             try_step(Deliver(message));
         }
     }
+    found
+}
+
+/// A step that finds a full bag: the exits are looked at first, since they are the rarest.
+fn full(random: &mut Random, table: &Table) -> Option<Step> {
+    let found = at_full_bags(table);
     let exits: Vec<Step> = found
         .iter()
         .copied()

@@ -93,7 +93,7 @@ pub fn shuffle_bytes(random: &mut Random, table: &[u8]) -> Vec<u8> {
 }
 
 /// Station numbers, rising: dense, sparse, at both ends of the range, or alike in their lower 16 bits.
-fn numbers(random: &mut Random, count: usize) -> Vec<u32> {
+pub fn numbers(random: &mut Random, count: usize) -> Vec<u32> {
     let mut chosen = BTreeSet::new();
     match random.below(6) {
         0 => chosen.extend(1..=count as u32),

@@ -2,6 +2,7 @@
 
 use model::{Action, Ran, STEP, read_step};
 
+use crate::allowed::Lists;
 use crate::archive::{Told, Viewed};
 use crate::cases::{Case, KINDS};
 use crate::steps::RULES;
@@ -11,6 +12,7 @@ use crate::steps::RULES;
 pub enum Comparison {
     Numbers,
     Room,
+    Allowed,
     Check,
     Line,
     Leave,
@@ -20,9 +22,10 @@ pub enum Comparison {
     Receivers,
 }
 
-pub const COMPARISONS: [&str; 9] = [
+pub const COMPARISONS: [&str; 10] = [
     "the run's number and counts",
     "every byte of the room",
+    "the list of allowed steps, and every byte of its room",
     "the check",
     "the line question",
     "the leave question",
@@ -83,6 +86,7 @@ pub struct Tally {
     pub leave: Answers,
     pub line: Answers,
     pub view: Views,
+    pub lists: Lists,
     /// The refused steps 11 to 15 by action: timeout, deliver, exit.
     pub stopped: [[u64; 3]; 16],
     pub steps_done: u64,
@@ -200,6 +204,7 @@ impl Tally {
             self.receivers_steps,
             "two receivers that do steps".to_string(),
         );
+        missing.extend(self.lists.missing());
         missing
     }
 
@@ -244,6 +249,7 @@ impl Tally {
         for (number, count) in self.view.refused.iter().enumerate().skip(1) {
             println!("{count:>10}  {number}");
         }
+        self.lists.print();
         println!("steps done, by rule, of those chosen against the model:");
         for (name, count) in RULES.iter().zip(&self.rules) {
             println!("{count:>10}  {name}");

@@ -1,11 +1,14 @@
-//! A second reading of document 01, to compare the receiver with.
+//! A second reading of document 01 and of the requests of document 02, to compare the receiver with.
 //!
-//! It was written from document 01, without the crates, and is built differently on purpose: a table is a map from station numbers to
+//! It was written from these papers, without the crates, and is built differently on purpose: a table is a map from station numbers to
 //! stations, a bag is a map from messages to the number of their copies, and the bytes are dealt with at the two ends only.
-//! The comments name the section of document 01 that each part follows.
+//! The comments name the section of document 01, or the request, that each part follows.
 #![deny(warnings)]
 
+mod allowed;
 mod bytes;
+#[cfg(test)]
+mod first_steps;
 mod listing;
 mod rules;
 #[cfg(test)]
@@ -13,6 +16,7 @@ mod situations;
 
 use std::collections::BTreeMap;
 
+pub use allowed::{allowed, fill};
 pub use bytes::{read_step, read_table, write_step, write_table};
 pub use listing::{listing, program};
 pub use rules::{Effect, apply, copies, effect, nidec};

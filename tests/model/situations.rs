@@ -5,7 +5,7 @@ use crate::Message::{Introduction, RemoveLeft, RemoveRight};
 use crate::*;
 
 /// A table from lines of station, left, right (0 for none), leaving and messages.
-fn table(lines: &[(u32, u32, u32, bool, &[Message])]) -> Table {
+pub fn table(lines: &[(u32, u32, u32, bool, &[Message])]) -> Table {
     let side = |number| if number == 0 { None } else { Some(number) };
     let mut table = Table::new();
     for &(number, left, right, leaving, messages) in lines {
@@ -25,7 +25,7 @@ fn table(lines: &[(u32, u32, u32, bool, &[Message])]) -> Table {
 }
 
 /// Runs the steps through the bytes, with a room of just the table's length.
-fn ran(before: &Table, steps: &[(u32, Action)]) -> Ran {
+pub fn ran(before: &Table, steps: &[(u32, Action)]) -> Ran {
     let steps: Vec<u8> = steps
         .iter()
         .flat_map(|&(station, action)| write_step(Step { station, action }))
@@ -291,17 +291,20 @@ fn malformed_steps() {
     }
 }
 
-/// "For 3 (right 5), 5 (left 3, right 9, bag i7), 7 (no neighbours), 9 (left 5), all staying, and the one step 'deliver to 5
-/// introduction 7'".
-#[test]
-fn the_printed_listing() {
-    let before = table(&[
+/// "For 3 (right 5), 5 (left 3, right 9, bag i7), 7 (no neighbours), 9 (left 5), all staying".
+pub fn example() -> Table {
+    table(&[
         (3, 0, 5, false, &[]),
         (5, 3, 9, false, &[Introduction(7)]),
         (7, 0, 0, false, &[]),
         (9, 5, 0, false, &[]),
-    ]);
-    let bytes = write_table(&before);
+    ])
+}
+
+/// "And the one step 'deliver to 5 introduction 7'".
+#[test]
+fn the_printed_listing() {
+    let bytes = write_table(&example());
     let step = write_step(Step {
         station: 5,
         action: Deliver(Introduction(7)),
