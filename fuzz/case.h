@@ -16,11 +16,12 @@ enum {
     MOST_TABLE = 66 * BLOCK,
     MOST_STEPS = 4098 * STEP,
     MOST_ROOM = 68 * BLOCK,
+    MOST_LIST = 2112 * STEP,
     LARGEST = 999999
 };
 
-/* How often the runs of the inputs gave each answer. */
-extern uint64_t answers_met[16];
+/* How often the runs of the inputs, and the lists of allowed steps in the inputs' rooms, gave each answer. */
+extern uint64_t answers_met[16], lists_met[10];
 
 struct cut {
     const uint8_t *table, *steps;

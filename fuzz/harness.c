@@ -1,9 +1,11 @@
-/* Calls the five functions of include/station_line.h on a fuzzer's input and stops where one of these laws is broken:
+/* Calls the six functions of include/station_line.h on a fuzzer's input and stops where one of these laws is broken:
  *
  *  - the room is untouched at 1 to 9, and past the written table at every other answer; what surrounds it is never touched;
  *  - the counts at 1 to 9 are 0; all steps are done exactly at 0;
- *  - the check, the run, the two questions and the view give one and the same number of 1 to 7;
+ *  - the check, the run, the list of allowed steps, the two questions and the view give one and the same number of 1 to 7;
  *  - what is written is accepted, its blocks rise, and a run of it with no steps writes the same bytes;
+ *  - a list of allowed steps is refused with 9 exactly when its room is shorter, and the room is then untouched, as it is past the list;
+ *  - its steps rise; a step is in it exactly when a run of that step alone answers 0 (tried for some of them where there are many);
  *  - the blocks in the opposite order give the same answers and bytes;
  *  - a list cut in two, the second part run over what the first one wrote, gives what the whole list gives;
  *  - an exit of the station asked about is refused by 13, 14 or 11 as the leave question says;
@@ -32,7 +34,7 @@ __attribute__((section("__libfuzzer_extra_counters")))
 #endif
 static uint8_t counters[COUNTERS];
 
-uint64_t answers_met[16];
+uint64_t answers_met[16], lists_met[10];
 
 static void tell(uint32_t kind, uint32_t a, uint32_t b, uint32_t c)
 {
@@ -90,6 +92,33 @@ static void same(const struct result *a, const struct result *b, const char *wha
 {
     law(a->ran.answer == b->ran.answer && a->ran.done == b->ran.done && a->ran.stations == b->ran.stations, what);
     law(memcmp(a->bytes, b->bytes, (size_t)a->ran.stations * BLOCK) == 0, what);
+}
+
+struct list {
+    uint32_t answer, filled;
+    uint8_t bytes[MOST_LIST];
+};
+
+/* One list of allowed steps in a painted room, with the laws about the room and the count. */
+static void list_steps(struct list *l, const uint8_t *table, size_t table_len, size_t room_len, enum place place)
+{
+    const uint8_t *t = lend_bytes(&tables, table, table_len, place);
+    uint8_t *room = lend_room(&rooms, room_len, place);
+    struct station_line_filled filled = station_line_allowed(t, table_len, room, room_len);
+    size_t written = (size_t)filled.filled * STEP;
+    law(filled.answer <= 7 || filled.answer == 9, "the list's answer is 0 to 7 or 9");
+    law(filled.answer == 0 || filled.filled == 0, "a list that is refused has no steps");
+    law(written <= MOST_LIST && written <= room_len, "no more steps than the room takes, and than 2,112");
+    law(rest_untouched(&rooms, room_len, place, written), "nothing but the list is touched");
+    memcpy(l->bytes, room, written);
+    l->answer = filled.answer;
+    l->filled = filled.filled;
+}
+
+static void same_list(const struct list *a, const struct list *b, const char *what)
+{
+    law(a->answer == b->answer && a->filled == b->filled, what);
+    law(memcmp(a->bytes, b->bytes, (size_t)a->filled * STEP) == 0, what);
 }
 
 static int rises_in_line(const uint8_t *table, size_t blocks, const char *what)
@@ -160,6 +189,109 @@ static void ask(const struct cut *c, uint32_t fault, enum place place)
     }
 }
 
+/* Whether the first of two steps comes before the second in the list: by station, action, kind and number. */
+static int is_before(const uint8_t *a, const uint8_t *b)
+{
+    uint32_t first[] = {get32(a + 4), get16(a), get16(a + 2), get32(a + 8)};
+    uint32_t second[] = {get32(b + 4), get16(b), get16(b + 2), get32(b + 8)};
+    size_t k = 0;
+    while (k < 3 && first[k] == second[k]) {
+        k++;
+    }
+    return first[k] < second[k];
+}
+
+static int is_listed(const struct list *l, const uint8_t *step)
+{
+    for (uint32_t k = 0; k < l->filled; k++) {
+        if (memcmp(l->bytes + (size_t)k * STEP, step, STEP) == 0) {
+            return 1;
+        }
+    }
+    return 0;
+}
+
+/* Whether a run of this step alone does it. */
+static int is_done(const struct cut *c, const uint8_t *step, enum place place)
+{
+    static struct result alone;
+    run(&alone, c->table, c->table_len, step, STEP, c->table_len, place);
+    return alone.ran.answer == 0;
+}
+
+/* Step k of a block: its timeout, then the delivery of each message in its bag, then its exit. */
+static void put_own_step(uint8_t *step, const uint8_t *block, uint32_t k)
+{
+    uint32_t own = get32(block + 4), count = get16(block + 16);
+    if (k == 0 || k > count) {
+        put_step(step, k == 0 ? 1 : 3, 0, own, 0);
+    } else {
+        const uint8_t *place = block + 20 + 8 * (size_t)(k - 1);
+        put_step(step, 2, get16(place), own, get32(place + 4));
+    }
+}
+
+/* Of the steps that an accepted table's own blocks suggest, those are listed that a run does. Of a long table some are tried. */
+static void try_own_steps(const struct cut *c, const struct list *l, enum place place)
+{
+    uint8_t step[STEP];
+    size_t blocks = c->table_len / BLOCK, every = 1 + blocks / 4, turn = c->station % every;
+    for (size_t at = 0; at < c->table_len; at += BLOCK) {
+        for (uint32_t k = 0; k <= get16(c->table + at + 16) + 1; k++) {
+            if (turn++ % every == 0) {
+                put_own_step(step, c->table + at, k);
+                law(is_listed(l, step) == is_done(c, step, place), "a step is listed exactly when a run does it");
+            }
+        }
+    }
+}
+
+/* Each listed step comes after the one before it. Each is done by a run; of a long list some are tried. */
+static void try_listed_steps(const struct cut *c, const struct list *l, enum place place)
+{
+    uint32_t every = 1 + l->filled / 64;
+    for (uint32_t k = 0; k < l->filled; k++) {
+        const uint8_t *step = l->bytes + (size_t)k * STEP;
+        law(k == 0 || is_before(step - STEP, step), "the listed steps rise");
+        if ((k + c->station) % every == 0) {
+            law(is_done(c, step, place), "a run does a step that is listed");
+        }
+        tell(7, get16(step) * 4 + get16(step + 2), size_class(l->filled), 0);
+    }
+}
+
+/* The list in the room of the input, in an exact one and in one that is a byte short. */
+static void try_rooms(const struct cut *c, const struct list *whole, enum place place)
+{
+    static struct list again;
+    size_t len = (size_t)whole->filled * STEP;
+    list_steps(&again, c->table, c->table_len, c->room_len, place);
+    lists_met[again.answer]++;
+    law((again.answer == 9) == (whole->answer == 0 && c->room_len < len), "9 tells of the list's room");
+    if (again.answer != 9) {
+        same_list(&again, whole, "the list does not depend on the room");
+    }
+    list_steps(&again, c->table, c->table_len, len, place);
+    same_list(&again, whole, "a room as long as the list suffices");
+    if (len > 0) {
+        list_steps(&again, c->table, c->table_len, len - 1, place);
+        law(again.answer == 9, "a room one byte short is too short");
+    }
+}
+
+/* The list of allowed steps, on the table as it was handed over. */
+static void list_allowed(const struct cut *c, uint32_t fault, enum place place)
+{
+    static struct list whole;
+    list_steps(&whole, c->table, c->table_len, MOST_LIST, place);
+    law(whole.answer == fault, "the list gives the check's number");
+    try_rooms(c, &whole, place);
+    try_listed_steps(c, &whole, place);
+    if (fault == 0) {
+        try_own_steps(c, &whole, place);
+    }
+}
+
 /* What the fuzzer is told of a run: its answer with the steps done and stations, the step it stopped at, and each block written. */
 static void tell_run(const struct result *r, const struct cut *c)
 {
@@ -195,14 +327,19 @@ static void turn_blocks(const struct cut *c, const struct result *whole, enum pl
 {
     static uint8_t turned[MOST_TABLE];
     static struct result again;
+    static struct list here, there;
+    enum place opposite = place == BEHIND ? BEFORE : BEHIND;
     if (c->table_len % BLOCK != 0) {
         return;
     }
     for (size_t at = 0; at < c->table_len; at += BLOCK) {
         memcpy(turned + (c->table_len - BLOCK - at), c->table + at, BLOCK);
     }
-    run(&again, turned, c->table_len, c->steps, c->steps_len, c->room_len, place == BEHIND ? BEFORE : BEHIND);
+    run(&again, turned, c->table_len, c->steps, c->steps_len, c->room_len, opposite);
     same(whole, &again, "the order of the blocks plays no part");
+    list_steps(&here, c->table, c->table_len, MOST_LIST, place);
+    list_steps(&there, turned, c->table_len, MOST_LIST, opposite);
+    same_list(&here, &there, "the order of the blocks plays no part in the list");
 }
 
 /* What was written, checked and run with no steps. */
@@ -249,6 +386,7 @@ int LLVMFuzzerTestOneInput(const uint8_t *data, size_t size)
     law((fault == 1) == (c.table_len % BLOCK != 0), "1 tells of the length");
     tell(0, fault, size_class(c.table_len / BLOCK), 0);
     ask(&c, fault, place);
+    list_allowed(&c, fault, place);
     run(&whole, c.table, c.table_len, c.steps, c.steps_len, c.room_len, place);
     answers_met[whole.ran.answer]++;
     laws_of_answer(&c, fault, whole.ran.answer);

@@ -7,6 +7,14 @@
 
 int LLVMFuzzerTestOneInput(const uint8_t *data, size_t size);
 
+static void print_met(const char *what, const uint64_t *met, int count)
+{
+    printf("%s:", what);
+    for (int k = 0; k < count; k++) {
+        printf(" %d: %llu%s", k, (unsigned long long)met[k], k < count - 1 ? "," : "\n");
+    }
+}
+
 int main(int argc, char **argv)
 {
     static uint8_t data[HEAD + MOST_TABLE + MOST_STEPS + 1];
@@ -25,10 +33,8 @@ int main(int argc, char **argv)
         fprintf(stderr, "%s\n", argv[k]);
         LLVMFuzzerTestOneInput(data, size);
     }
-    printf("answers met:");
-    for (int k = 0; k < 16; k++) {
-        printf(" %d: %llu%s", k, (unsigned long long)answers_met[k], k < 15 ? "," : "\n");
-    }
+    print_met("answers met", answers_met, 16);
+    print_met("answers of the list of allowed steps met", lists_met, 10);
     printf("%d passed, 0 failed\n", argc - 1);
     return argc == 1;
 }

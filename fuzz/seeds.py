@@ -1,10 +1,13 @@
 #!/usr/bin/env python3
-"""Writes the seeds of fuzz/corpus: the printed example of document 01 and the shorter cases of crates/situations/data/cases.bin. Run it
-in the repository's root; with one argument it writes them below that folder. An input is four numbers of 32 bits (length of the table, of the step list, of the room; the station asked
-about), the table and the step list."""
+"""Writes the seeds of fuzz/corpus: the printed example of document 01, the shorter cases of crates/situations/data/cases.bin, and tables for the
+list of allowed steps. Run it in the repository's root; with one argument it writes them below that folder. An input is four numbers of 32 bits
+(length of the table, of the step list, of the room; the station asked about), the table and the step list."""
 import pathlib
 import struct
 import sys
+
+sys.path.insert(0, "tests")
+from layout import INTRODUCTION, REMOVE_LEFT, REMOVE_RIGHT, block
 
 MOST = 3000
 corpus = pathlib.Path(sys.argv[1] if len(sys.argv) > 1 else ".", "fuzz/corpus")
@@ -29,3 +32,17 @@ while at < len(data):
         seed(f"situation-{case:03}", table, steps, room)
     at += 12 + table_len + steps_len
     case += 1
+
+
+def departure(held):
+    """5 may exit between 3 and 9, whose bag holds so many."""
+    return block(9, bag=[(REMOVE_LEFT, 0)] * held) + block(5, left=3, right=9, leaving=1) + block(3)
+
+
+copies = [(REMOVE_RIGHT, 0), (INTRODUCTION, 9), (REMOVE_LEFT, 0), (INTRODUCTION, 5), (REMOVE_RIGHT, 0), (INTRODUCTION, 9)]
+waiting = block(3, right=5, bag=[(REMOVE_RIGHT, 0)] * 32) + block(5, left=3, bag=[(REMOVE_LEFT, 0)] * 32)
+seed("allowed-copies", block(9) + block(5, bag=copies), b"", 6 * 12)
+seed("allowed-short", block(9) + block(5, bag=copies), b"", 6 * 12 - 1)
+seed("allowed-exit", departure(31), b"", 5 * 12)
+seed("allowed-full", departure(32), b"", 3 * 12)
+seed("allowed-none", waiting, b"", 0)

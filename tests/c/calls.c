@@ -22,6 +22,13 @@ static enum place places(int some_empty) {
     return some_empty ? NOWHERE : BEFORE;
 }
 
+/* What was written begins the room. */
+static void expect_room(size_t room_len, enum place place, struct bytes written) {
+    const uint8_t *begin = rooms.own + area_start(&rooms, room_len, place);
+    int as_wanted = rest_untouched(&rooms, room_len, place, written.len) && memcmp(begin, written.at, written.len) == 0;
+    expect(as_wanted, "every byte of the room, and of what lies beside it");
+}
+
 void expect_run(struct bytes table, struct bytes steps, size_t room_len, struct station_line_ran wanted, struct bytes written) {
     enum place last = places(table.len == 0 || steps.len == 0 || room_len == 0);
     for (enum place place = BEHIND; place <= last; place++) {
@@ -32,9 +39,18 @@ void expect_run(struct bytes table, struct bytes steps, size_t room_len, struct 
         expect(ran.answer == wanted.answer, "the answer of the run");
         expect(ran.done == wanted.done, "the steps done");
         expect(ran.stations == wanted.stations, "the stations now");
-        const uint8_t *begin = rooms.own + area_start(&rooms, room_len, place);
-        int as_wanted = rest_untouched(&rooms, room_len, place, written.len) && memcmp(begin, written.at, written.len) == 0;
-        expect(as_wanted, "every byte of the room, and of what lies beside it");
+        expect_room(room_len, place, written);
+    }
+}
+
+void expect_allowed(struct bytes table, size_t room_len, struct station_line_filled wanted, struct bytes written) {
+    for (enum place place = BEHIND; place <= places(table.len == 0 || room_len == 0); place++) {
+        const uint8_t *t = lend_bytes(&tables, table.at, table.len, place);
+        uint8_t *room = lend_room(&rooms, room_len, place);
+        struct station_line_filled filled = station_line_allowed(t, table.len, room, room_len);
+        expect(filled.answer == wanted.answer, "the answer of the list");
+        expect(filled.filled == wanted.filled, "the steps filled");
+        expect_room(room_len, place, written);
     }
 }
 

@@ -1,4 +1,4 @@
-/* The five functions of include/station_line.h, called with what they are handed at every place of the guarded areas. */
+/* The six functions of include/station_line.h, called with what they are handed at every place of the guarded areas. */
 #ifndef CALLS_H
 #define CALLS_H
 
@@ -20,6 +20,9 @@ void make_areas(void);
 
 /* What a run returns, the bytes that it writes, and that it touches no other byte of the room or beside it. */
 void expect_run(struct bytes table, struct bytes steps, size_t room_len, struct station_line_ran wanted, struct bytes written);
+
+/* The same of a list of allowed steps: what is written is the list. */
+void expect_allowed(struct bytes table, size_t room_len, struct station_line_filled wanted, struct bytes written);
 
 void expect_check(struct bytes table, uint32_t answer);
 void expect_leave(struct bytes table, uint32_t station, uint32_t answer, uint32_t yes);

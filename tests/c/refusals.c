@@ -12,6 +12,8 @@ static void refuse(const char *what, uint32_t number, struct bytes table, struct
 static void refuse_table(const char *what, uint32_t number, const uint8_t *at, size_t len, size_t room_len) {
     struct bytes table = {at, len};
     refuse(what, number, table, no_bytes, room_len);
+    expect_allowed(table, room_len, (struct station_line_filled){number, 0}, no_bytes);
+    expect_allowed(table, 0, (struct station_line_filled){number, 0}, no_bytes);
     expect_check(table, number);
     expect_leave(table, 5, number, 0);
     expect_line(table, number, 0);

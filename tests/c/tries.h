@@ -17,6 +17,7 @@ void put_example(uint8_t *table);
 void try_runs(void);
 void try_refusals(void);
 void try_stops(void);
+void try_allowed(void);
 void try_questions(void);
 void try_views(void);
 

@@ -1,9 +1,9 @@
 /* A stand-in for the archive that is wrong in one way, to show that the test sees it. The linker hands it every call of the test (ld's
  * --wrap); it lets the archive answer, so that the answers and the table written are right, and then touches one byte that it may not.
  *
- * The way is said by the environment's WRONG, four words: the function (check, run, leave, line, view), what it was handed (table,
- * list, room), read or write, and where: before it, behind it, or inside (a byte of a table or a list, or of a room past the table
- * written). "ends" is a program that dies after its last line. Without WRONG nothing is wrong. */
+ * The way is said by the environment's WRONG, four words: the function (check, run, allowed, leave, line, view), what it was handed
+ * (table, list, room), read or write, and where: before it, behind it, or inside (a byte of a table or a list, or of a room past the
+ * table or the list written). "ends" is a program that dies after its last line. Without WRONG nothing is wrong. */
 #include <stdio.h>
 #include <stdlib.h>
 #include <string.h>
@@ -13,6 +13,7 @@
 uint32_t __real_station_line_check(const uint8_t *table, size_t table_len);
 struct station_line_ran __real_station_line_run(const uint8_t *table, size_t table_len, const uint8_t *steps, size_t steps_len,
                                                 uint8_t *room, size_t room_len);
+struct station_line_filled __real_station_line_allowed(const uint8_t *table, size_t table_len, uint8_t *room, size_t room_len);
 struct station_line_told __real_station_line_may_leave(const uint8_t *table, size_t table_len, uint32_t station);
 struct station_line_told __real_station_line_in_line(const uint8_t *table, size_t table_len);
 struct station_line_viewed __real_station_line_view(const uint8_t *table, size_t table_len, size_t position);
@@ -20,6 +21,7 @@ struct station_line_viewed __real_station_line_view(const uint8_t *table, size_t
 uint32_t __wrap_station_line_check(const uint8_t *table, size_t table_len);
 struct station_line_ran __wrap_station_line_run(const uint8_t *table, size_t table_len, const uint8_t *steps, size_t steps_len,
                                                 uint8_t *room, size_t room_len);
+struct station_line_filled __wrap_station_line_allowed(const uint8_t *table, size_t table_len, uint8_t *room, size_t room_len);
 struct station_line_told __wrap_station_line_may_leave(const uint8_t *table, size_t table_len, uint32_t station);
 struct station_line_told __wrap_station_line_in_line(const uint8_t *table, size_t table_len);
 struct station_line_viewed __wrap_station_line_view(const uint8_t *table, size_t table_len, size_t position);
@@ -66,6 +68,13 @@ struct station_line_ran __wrap_station_line_run(const uint8_t *table, size_t tab
     touch("run", "list", steps, steps_len, 0);
     touch("run", "room", room, room_len, (size_t)512 * ran.stations);
     return ran;
+}
+
+struct station_line_filled __wrap_station_line_allowed(const uint8_t *table, size_t table_len, uint8_t *room, size_t room_len) {
+    struct station_line_filled filled = __real_station_line_allowed(table, table_len, room, room_len);
+    touch("allowed", "table", table, table_len, 0);
+    touch("allowed", "room", room, room_len, (size_t)12 * filled.filled);
+    return filled;
 }
 
 struct station_line_told __wrap_station_line_may_leave(const uint8_t *table, size_t table_len, uint32_t station) {
