@@ -29,6 +29,18 @@ const struct command commands[] = {
                 "  --trace             before the listing, print a line for each step: what it\n"
                 "                      changed and sent to whom, or the refusal and what was\n"
                 "                      missing\n"},
+    {.name = "allowed",
+     .words = {"TABLE"},
+     .options = {[OUTPUT] = true},
+     .does = allowed_command,
+     .usage = "allowed TABLE [-o STEPS]",
+     .summary = "every step that may happen next",
+     .details = "Prints every step that a run would accept as its first one, a line each: by\n"
+                "rising station number, and for a station its timeout, the deliveries from its\n"
+                "bag and its exit. Copies of a message make one delivery. 'assemble steps' takes\n"
+                "these lines.\n"
+                "\n"
+                "  -o, --output STEPS    write them to STEPS as well, as a step list\n"},
     {.name = "leave",
      .words = {"TABLE", "NUMBER"},
      .does = leave_command,

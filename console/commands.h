@@ -33,6 +33,7 @@ const struct command *find_command(const char *name);
 /* Each gives the exit status; what they print to standard output is flushed and checked by main. */
 int check_command(const struct arguments *arguments);
 int run_command(const struct arguments *arguments);
+int allowed_command(const struct arguments *arguments);
 int leave_command(const struct arguments *arguments);
 int line_command(const struct arguments *arguments);
 int view_command(const struct arguments *arguments);

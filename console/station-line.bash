@@ -25,9 +25,9 @@ _station_line() {
     --around) choices=$(_station_line_stations) ;;
     esac
     if [ "$COMP_CWORD" -eq 1 ]; then
-        choices='check run leave line view draw assemble dump help --help --version'
+        choices='check run allowed leave line view draw assemble dump help --help --version'
     elif [ "$command" = help ]; then
-        choices='check run leave line view draw assemble dump'
+        choices='check run allowed leave line view draw assemble dump'
     elif [ "$COMP_CWORD" -eq 2 ] && [[ $command == assemble || $command == dump ]] && [[ $current != -* ]]; then
         choices='table steps'
     elif [ "$command" = leave ] && [ "$COMP_CWORD" -eq 3 ]; then
@@ -37,7 +37,7 @@ _station_line() {
     check) options='--all' ;;
     run) options='-o --output --all-or-nothing --trace' ;;
     draw) options='--only --around' ;;
-    assemble) options='-o --output' ;;
+    allowed | assemble) options='-o --output' ;;
     dump) options='--damaged' ;;
     esac
     if [ -n "$choices" ]; then

@@ -25,6 +25,8 @@ toolong=('long.bin:over 32,768 bytes' 'long1.bin:over 32,768 bytes' '/dev/zero:o
 door16 $'16\n' check FILE
 door16 $'answer 16 done 0 stations 0\n' run FILE steps.bin
 door16 $'answer 16 done 0 stations 0\n' run FILE bad.bin -o never.bin
+door16 '' allowed FILE
+door16 '' allowed FILE -o never.bin
 door16 '' leave FILE 5
 door16 '' line FILE
 door16 '' view FILE
@@ -57,6 +59,7 @@ for k in 1 3 4 5 6 7; do
     say "$k" "$k.bin"
     holds check eval 'ends 1 check $k.bin && [ "$out" = $k$'"'\n'"' ] && [[ $err == "${said%$'"'\n'"'} ("* ]]'
     try run 1 "answer $k done 0 stations 0"$'\n' "$said" run $k.bin steps.bin -o never.bin
+    try allowed 1 '' "$said" allowed $k.bin -o never.bin
     try leave 1 '' "$said" leave $k.bin 5
     try line 1 '' "$said" line $k.bin
     try view 1 '' "$said" view $k.bin
@@ -99,8 +102,8 @@ stuck() {
     [ $? -eq 2 ] && [ "$(grep -c '^station-line: standard output: .*No space left on device$' "$got.err")" -eq 1 ]
 }
 group 'a full standard output'
-for sentence in --help --version 'help run' 'check table.bin' 'check 3.bin' 'run table.bin steps.bin' 'leave table.bin 5' 'line table.bin' \
-    'view table.bin' 'draw table.bin' 'dump table table.bin' 'dump steps steps.bin' 'assemble table stations.txt' \
+for sentence in --help --version 'help run' 'check table.bin' 'check 3.bin' 'run table.bin steps.bin' 'allowed table.bin' 'leave table.bin 5' \
+    'line table.bin' 'view table.bin' 'draw table.bin' 'dump table table.bin' 'dump steps steps.bin' 'assemble table stations.txt' \
     'assemble steps steps.txt' 'dump steps 4096.bin' 'run 64.bin steps.bin'; do
     holds "$sentence" stuck $sentence
 done

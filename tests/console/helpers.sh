@@ -73,6 +73,16 @@ steps() {
     printf '%s\n' "${@:2}" | "$program" assemble steps - -o "$1" || unmet "assemble steps $1"
 }
 
+# part_words WORD..: the words before `--` in $before, those behind it in $after
+part_words() {
+    before=()
+    while [ "$1" != -- ]; do
+        before+=("$1")
+        shift
+    done
+    after=("${@:2}")
+}
+
 # bytes FILE HEX..: a file of these bytes
 bytes() {
     local file=$1 hex

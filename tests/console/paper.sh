@@ -65,18 +65,13 @@ try 'messages in written order' 0 $'answer 0 done 0 stations 2\n5 - - stay i5 i9
 
 # situation NAME STEP STATUS ANSWER LINE.. -- LINE..: the stations before, and the stations after
 situation() {
-    local name=$1 step=$2 status=$3 answer=$4 before=() after
-    shift 4
-    while [ "$1" != -- ]; do
-        before+=("$1")
-        shift
-    done
-    shift
-    after=$(printf '%s\n' "$answer" "$@")$'\n'
+    local name=$1 step=$2 status=$3 answer=$4 before after listing
+    part_words "${@:5}"
+    listing=$(printf '%s\n' "$answer" "${after[@]}")$'\n'
     table before.bin "${before[@]}"
     steps step.bin "$step"
     say_step "${answer#answer }" "$step"
-    try "$name" "$status" "$after" "$said" run before.bin step.bin
+    try "$name" "$status" "$listing" "$said" run before.bin step.bin
 }
 # say_step ANSWER STEP: what is said of the one step of a list
 say_step() {

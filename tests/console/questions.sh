@@ -23,6 +23,7 @@ try 'no, with one' 1 $'no\n' '' leave free.bin 9
 : > empty
 try 'check: the empty table' 0 $'0\n' '' check empty
 try 'line: the empty table' 0 $'yes\n' '' line empty
+try 'allowed: the empty table' 0 '' '' allowed empty
 try 'view: the empty table' 0 $'end\n' '' view empty
 try 'dump: the empty table' 0 '' '' dump table empty
 try 'dump: the empty list' 0 '' '' dump steps empty

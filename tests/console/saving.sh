@@ -12,6 +12,7 @@ unwritten() {
     group "not written: $1"
     try 'run' 2 '' "station-line: $2: not written: $3"$'\n' run table.bin steps.bin -o "$2"
     try 'assemble' 2 '' "station-line: $2: not written: $3"$'\n' assemble table stations.txt -o "$2"
+    try 'allowed' 2 '' "station-line: $2: not written: $3"$'\n' allowed table.bin -o "$2"
     holds 'all stands' kept
     end
 }

@@ -2,14 +2,9 @@
 
 # traced NAME LINE.. -- STEP=WHAT..: the trace of these steps over these stations
 traced() {
-    local name=$1 before=() list=() wanted= k=0 part
-    shift
-    while [ "$1" != -- ]; do
-        before+=("$1")
-        shift
-    done
-    shift
-    for part; do
+    local name=$1 before after list=() wanted= k=0 part
+    part_words "${@:2}"
+    for part in "${after[@]}"; do
         k=$((k + 1))
         list+=("${part%%=*}")
         wanted+="$k ${part%%=*}: ${part#*=}"$'\n'

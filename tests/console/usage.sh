@@ -6,6 +6,7 @@ try 'accepted' 0 $'0\n' '' check table.bin
 try 'done' 0 "$listing" '' run table.bin steps.bin
 try 'leave: yes' 0 $'yes\n' '' leave free.bin 7
 try 'line: yes' 0 $'yes\n' '' line straight.bin
+try 'allowed: nothing' 0 '' '' allowed empty
 end
 group 'the exit status: 1 for any other answer, no among them'
 try 'leave: no' 1 $'no\n' '' leave table.bin 3
@@ -25,26 +26,27 @@ try 'an empty command' 2 '' "$said" ''
 misuse --verbose 'no such option'
 try 'an unknown option' 2 '' "$said" --verbose
 group 'wrong use of each command'
-for use in 'check TABLE' 'run TABLE STEPS' 'leave TABLE NUMBER' 'line TABLE' 'view TABLE' 'draw TABLE' 'assemble table|steps TEXT' \
-    'dump table|steps FILE'; do
+for use in 'check TABLE' 'run TABLE STEPS' 'allowed TABLE' 'leave TABLE NUMBER' 'line TABLE' 'view TABLE' 'draw TABLE' \
+    'assemble table|steps TEXT' 'dump table|steps FILE'; do
     set -- $use
+    if [ $# -eq 2 ]; then given=(table.bin); else given=(table table.bin); fi
     misuse "$1" "$2 is missing" "$1"
     try "$1: no word" 2 '' "$said" "$1"
     misuse "$1" "${3:-$2} is missing" "$1"
     [ $# -eq 2 ] || try "$1: one word" 2 '' "$said" "$1" table
     misuse 5 'one word too many' "$1"
-    if [ $# -eq 2 ]; then try "$1: too many" 2 '' "$said" "$1" table.bin 5; else try "$1: too many" 2 '' "$said" "$1" table table.bin 5; fi
+    try "$1: too many" 2 '' "$said" "$1" "${given[@]}" 5
     misuse --quick 'no such option of this command' "$1"
     try "$1: an unknown option" 2 '' "$said" "$1" table.bin --quick
     case $1 in
-    run | assemble)
+    run | allowed | assemble)
         misuse -o "a file's name is missing" "$1"
-        try "$1: -o without a file" 2 '' "$said" "$1" table table.bin -o
-        try "$1: -o with an empty name" 2 '' "$said" "$1" table table.bin -o ''
+        try "$1: -o without a file" 2 '' "$said" "$1" "${given[@]}" -o
+        try "$1: -o with an empty name" 2 '' "$said" "$1" "${given[@]}" -o ''
         misuse --output= "a file's name is missing" "$1"
-        try "$1: --output= with an empty name" 2 '' "$said" "$1" table table.bin --output=
+        try "$1: --output= with an empty name" 2 '' "$said" "$1" "${given[@]}" --output=
         misuse -ob 'given twice' "$1"
-        try "$1: -o twice" 2 '' "$said" "$1" table table.bin --output a -ob
+        try "$1: -o twice" 2 '' "$said" "$1" "${given[@]}" --output a -ob
         ;;
     *)
         misuse -o 'no such option of this command' "$1"
@@ -85,7 +87,7 @@ end
 # Help: on standard output, status 0, wherever it is asked for.
 help=$("$program" --help)$'\n'
 run_help=$("$program" help run)$'\n'
-holds 'help names every command' eval 'for c in check run leave line view draw assemble dump; do [[ $help == *$'"'\n  '"'"$c "* ]] || exit 1; done'
+holds 'help names every command' eval 'for c in check run allowed leave line view draw assemble dump; do [[ $help == *$'"'\n  '"'"$c "* ]] || exit 1; done'
 holds 'help tells the exit status' grep -q '0 done, accepted or yes; 1 any other answer, no among them' <<< "${help//$'\n'/ }"
 group 'help, -h and --help anywhere'
 try --help 0 "$help" '' --help
@@ -103,7 +105,7 @@ misuse fly 'no such command'
 try 'help of no command' 2 '' "$said" help fly
 end
 group 'help of each command begins with its use'
-for c in check run leave line view draw assemble dump; do
+for c in check run allowed leave line view draw assemble dump; do
     holds "$c" eval 'ends 0 help "$c" && [[ $out == "usage: station-line $c "* ]] && [ -z "$err" ]'
 done
 end
