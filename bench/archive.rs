@@ -12,6 +12,13 @@ struct Ran {
 
 #[repr(C)]
 #[derive(Clone, Copy)]
+struct Filled {
+    answer: u32,
+    filled: u32,
+}
+
+#[repr(C)]
+#[derive(Clone, Copy)]
 struct Told {
     answer: u32,
     yes: u32,
@@ -27,6 +34,12 @@ unsafe extern "C" {
         room: *mut u8,
         room_len: usize,
     ) -> Ran;
+    fn station_line_allowed(
+        table: *const u8,
+        table_len: usize,
+        room: *mut u8,
+        room_len: usize,
+    ) -> Filled;
     fn station_line_may_leave(table: *const u8, table_len: usize, station: u32) -> Told;
     fn station_line_in_line(table: *const u8, table_len: usize) -> Told;
 }
@@ -52,6 +65,19 @@ pub fn run(table: &[u8], steps: &[u8], room: &mut [u8]) -> TunedRan {
         answer: ran.answer,
         done: ran.done,
         stations: ran.stations,
+    }
+}
+
+/// The steps filled, or the number of a refusal, which fills none.
+pub fn allowed(table: &[u8], room: &mut [u8]) -> Result<usize, u32> {
+    let filled =
+        unsafe { station_line_allowed(table.as_ptr(), table.len(), room.as_mut_ptr(), room.len()) };
+    match filled.answer {
+        0 => Ok(filled.filled as usize),
+        number => {
+            assert_eq!(filled.filled, 0);
+            Err(number)
+        }
     }
 }
 

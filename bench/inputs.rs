@@ -1,7 +1,7 @@
-//! What is measured: seven lines, each with a table, a step list and a question, all drawn from one fixed seed.
+//! What is measured: nine lines, each with a table, a step list and a question, all drawn from one fixed seed.
 
 use model::Action::{Deliver, Exit, Timeout};
-use model::{Step, Table, apply, effect, nidec, read_table, write_step};
+use model::{MOST_MESSAGES, Step, Table, apply, effect, nidec, read_table, write_step};
 
 use crate::random::Random;
 use crate::tables::{Block, bytes, shuffle};
@@ -13,6 +13,7 @@ pub const STEPS: usize = 4096;
 pub enum Call {
     Check,
     Run,
+    Allowed,
     MayLeave,
     InLine,
 }
@@ -25,7 +26,7 @@ pub struct Input {
     pub station: u32,
 }
 
-pub const LINES: usize = 7;
+pub const LINES: usize = 9;
 
 /// One line, drawn without those before it.
 pub fn line(number: usize) -> Input {
@@ -41,7 +42,9 @@ pub fn line(number: usize) -> Input {
         3 => exits(random),
         4 => unnamed(random),
         5 => plain(random, "in_line, 64 full blocks in line", Call::InLine),
-        _ => plain(random, "run, 64 full blocks, empty list", Call::Run),
+        6 => plain(random, "run, 64 full blocks, empty list", Call::Run),
+        7 => different(random, "allowed, 64 full bags", 32),
+        _ => different(random, "allowed, 64 bags of 31 in line", 31),
     }
 }
 
@@ -89,6 +92,29 @@ fn plain(random: &mut Random, name: &'static str, call: Call) -> Input {
     Input {
         name,
         call,
+        table: bytes(&blocks),
+        steps: Vec::new(),
+        station: 0,
+    }
+}
+
+/// 64 blocks with so many different messages each, every one of which may be delivered. Stations with full bags have no neighbours, so that
+/// nothing is sent; the others are in line, and what they send finds room.
+fn different(random: &mut Random, name: &'static str, count: usize) -> Input {
+    let mut blocks = in_line(random);
+    let mut messages: Vec<(u16, u32)> = numbers(&blocks).into_iter().map(|n| (1, n)).collect();
+    messages.extend([(2, 0), (3, 0)]);
+    for block in &mut blocks {
+        random.shuffle(&mut messages);
+        block.bag = messages[..count].to_vec();
+        if count == MOST_MESSAGES {
+            (block.left, block.right) = (0, 0);
+        }
+    }
+    shuffle(random, &mut blocks);
+    Input {
+        name,
+        call: Call::Allowed,
         table: bytes(&blocks),
         steps: Vec::new(),
         station: 0,

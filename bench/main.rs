@@ -1,8 +1,9 @@
 //! The archive, the plain model of tests/model and the tuned version side by side, in one run.
 //!
 //!   bench                       checks the three against each other, then prints the table of times
-//!   bench --line K WHO CALLS    only so many calls of line K (0 to 6) by archive, model or tuned: for counting instructions
-//!   bench --save DIRECTORY      the table and the step list of every line that is a run, as files: for measuring the stack
+//!   bench --line K WHO CALLS    only so many calls of line K (0 to 8) by archive, model or tuned: for counting instructions
+//!   bench --save DIRECTORY      the table of every line that is a run, with its step list, or a list of allowed steps, as files: for measuring
+//!                               the stack
 //!   bench --names               the names of the lines
 #![deny(warnings)]
 
@@ -47,11 +48,13 @@ fn main() -> ExitCode {
         ["--save", directory] => {
             for k in 0..LINES {
                 let input = inputs::line(k);
-                if let Call::Run = input.call {
-                    let save = |what: &str, bytes: &[u8]| {
-                        std::fs::write(format!("{directory}/{k}.{what}"), bytes).expect("written");
-                    };
+                let save = |what: &str, bytes: &[u8]| {
+                    std::fs::write(format!("{directory}/{k}.{what}"), bytes).expect("written");
+                };
+                if let Call::Run | Call::Allowed = input.call {
                     save("table", &input.table);
+                }
+                if let Call::Run = input.call {
                     save("steps", &input.steps);
                 }
             }
@@ -92,6 +95,9 @@ fn call(who: usize, input: &Input, room: &mut [u8]) {
         (Call::Run, 0) => drop(black_box(archive::run(table, steps, room))),
         (Call::Run, 1) => drop(black_box(model::run(table, steps, room.len()).written())),
         (Call::Run, _) => drop(black_box(tuned::run(table, steps, room))),
+        (Call::Allowed, 0) => drop(black_box(archive::allowed(table, room))),
+        (Call::Allowed, 1) => drop(black_box(listed(table, room.len()))),
+        (Call::Allowed, _) => drop(black_box(tuned::allowed(table, room))),
         (Call::MayLeave, 0) => drop(black_box(archive::may_leave(table, station))),
         (Call::MayLeave, 1) => drop(black_box(model::may_leave(table, station))),
         (Call::MayLeave, _) => drop(black_box(tuned::may_leave(table, station))),
@@ -102,17 +108,31 @@ fn call(who: usize, input: &Input, room: &mut [u8]) {
     black_box(room);
 }
 
+/// The model's list of allowed steps as it goes to a room of this length.
+fn listed(table: &[u8], room: usize) -> Result<Vec<u8>, u32> {
+    model::fill(&model::allowed(table)?, room)
+}
+
 /// The archive and the tuned version give what the model gives, on the inputs that are measured and on random ones.
 fn compare() {
     for k in 0..LINES {
         let input = inputs::line(k);
         alike(&input.table, &input.steps, input.table.len(), input.station);
-        // Every step of a measured list is done, and both questions are answered with yes: nothing ends early.
+        // Every step of a measured list is done, both questions are answered with yes, and every message of a bag may be delivered: nothing
+        // ends early.
         let ran = model::run(&input.table, &input.steps, input.table.len());
         assert_eq!((ran.answer, ran.done), (0, input.steps.len() / model::STEP));
         match input.call {
             Call::MayLeave => assert_eq!(model::may_leave(&input.table, input.station), Ok(true)),
             Call::InLine => assert_eq!(model::in_line(&input.table), Ok(true)),
+            Call::Allowed => {
+                let messages = input.table.chunks(model::BLOCK).map(|block| block[16]);
+                let steps = messages.map(|count| 1 + usize::from(count)).sum();
+                assert_eq!(
+                    model::allowed(&input.table).map(|list| list.len()),
+                    Ok(steps)
+                );
+            }
             Call::Check | Call::Run => {}
         }
     }
@@ -170,7 +190,7 @@ fn any_case(random: &mut Random) -> (Vec<u8>, Vec<u8>, usize, u32) {
     (table, list, room, station)
 }
 
-/// All four functions on one input; the number the run answers.
+/// All five functions on one input; the number the run answers.
 fn alike(table: &[u8], steps: &[u8], room: usize, station: u32) -> u32 {
     let ran = model::run(table, steps, room);
     let expected = tuned::Ran {
@@ -184,6 +204,9 @@ fn alike(table: &[u8], steps: &[u8], room: usize, station: u32) -> u32 {
     assert_eq!(archive::run(table, steps, &mut rooms[0]), expected);
     assert_eq!(tuned::run(table, steps, &mut rooms[1]), expected);
     assert!(rooms[0] == after && rooms[1] == after, "other bytes");
+    let short = listed(table, usize::MAX).map_or(7, |list| list.len().saturating_sub(1));
+    alike_lists(table, room);
+    alike_lists(table, short);
     let check = model::check(table);
     assert_eq!((archive::check(table), tuned::check(table)), (check, check));
     let leave = model::may_leave(table, station);
@@ -193,6 +216,18 @@ fn alike(table: &[u8], steps: &[u8], room: usize, station: u32) -> u32 {
     assert_eq!(archive::in_line(table), line);
     assert_eq!(tuned::in_line(table), line);
     ran.answer
+}
+
+/// The list of allowed steps in a room of this length.
+fn alike_lists(table: &[u8], room: usize) {
+    let list = listed(table, room);
+    let mut after = list.clone().unwrap_or_default();
+    after.resize(room, PATTERN);
+    let filled = list.map(|list| list.len() / model::STEP);
+    let mut rooms = [vec![PATTERN; room], vec![PATTERN; room]];
+    assert_eq!(archive::allowed(table, &mut rooms[0]), filled);
+    assert_eq!(tuned::allowed(table, &mut rooms[1]), filled);
+    assert!(rooms[0] == after && rooms[1] == after, "other bytes");
 }
 
 /// The best time of a call in many rounds, in which the three take turns. A round times enough calls for the clock.
