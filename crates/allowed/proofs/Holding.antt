@@ -16,6 +16,7 @@ use Rattle.lists.proofs.Filling.{drop-replicate}
 use Rattle.line.specs.declared.Content.{Content}
 use Rattle.line.specs.declared.Content.the-variants.{Introduction, RemoveLeft, RemoveRight}
 use Rattle.line.specs.declared.Message.{Message}
+use Rattle.line.specs.declared.Side.{Side}
 use Rattle.line.specs.declared.Side.the-variants.{Left, Right}
 use Rattle.line.specs.Message.{kind, carried, introduction, removal, same, holds}
 use Rattle.octets.specs.Bytes.{word, quad}
@@ -42,28 +43,26 @@ number-tells q h (Introduction n) = refl
 number-tells q h RemoveLeft = ne-eqb q 0 (λ (e : q ≡ 0). omega arith)
 number-tells q h RemoveRight = ne-eqb q 0 (λ (e : q ≡ 0). omega arith)
 
-left-tells : (c : Content) → eqb 2 (kind c) ≡ same (removal Left) (record { content = c })
-unfolding same removal
-left-tells (Introduction n) = refl
-left-tells RemoveLeft = refl
-left-tells RemoveRight = refl
+abbrev pub removalKind : Side → ℕ
+removalKind Left = 2
+removalKind Right = 3
 
-right-tells : (c : Content) → eqb 3 (kind c) ≡ same (removal Right) (record { content = c })
+kind-tells : (d : Side) (c : Content) → eqb (removalKind d) (kind c) ≡ same (removal d) (record { content = c })
 unfolding same removal
-right-tells (Introduction n) = refl
-right-tells RemoveLeft = refl
-right-tells RemoveRight = refl
+kind-tells Left (Introduction n) = refl
+kind-tells Left RemoveLeft = refl
+kind-tells Left RemoveRight = refl
+kind-tells Right (Introduction n) = refl
+kind-tells Right RemoveLeft = refl
+kind-tells Right RemoveRight = refl
 
 any-same : {f g : Message → Bool} → ((m : Message) → f m ≡ g m) → (l : List Message) → any f l ≡ any g l
 unfolding any
 any-same e [] = refl
 any-same e (m ∷ l) = rw (e m, any-same e l)
 
-pub left-held : (l : List Message) {r : Bool} → r ≡ any (ofKind 2) l → r ≡ holds (removal Left) l
-left-held l e = e ∙ any-same (λ m. left-tells (m .content)) l
-
-pub right-held : (l : List Message) {r : Bool} → r ≡ any (ofKind 3) l → r ≡ holds (removal Right) l
-right-held l e = e ∙ any-same (λ m. right-tells (m .content)) l
+pub removal-held : (d : Side) (l : List Message) {r : Bool} → r ≡ any (ofKind (removalKind d)) l → r ≡ holds (removal d) l
+removal-held d l e = e ∙ any-same (λ m. kind-tells d (m .content)) l
 
 -- the numbers of the first j places are in
 pub record NumbersTo (b : List ℕ) (n j : ℕ) (numbers : List ℕ) : Type 0 where

@@ -5,4 +5,3 @@ pub mod Endian
 pub mod Sums
 pub mod Zeros
 pub mod Overwritten
-pub mod Written

@@ -4,24 +4,12 @@ use mathlib.Core.Path.{_≡_, refl}
 use mathlib.Core.List.{List, _++_}
 use lib.ListN.{length, getD, take, drop}
 use Rattle.line.specs.declared.Step.{Step}
-use Rattle.octets.specs.Bytes.{le16, le32, AreBytes}
-use Rattle.octets.proofs.Written.{bytes-append, bytes-le16, bytes-le32}
 use Rattle.lists.proofs.Concat.{joined-append, joined-size, joined-at}
-use Rattle.steps.specs.Steps.{actionNumber, kindBeside, numberBeside, stepBytes, listBytes}
+use Rattle.steps.specs.Steps.{stepBytes, listBytes}
 
 pub step-size : (x : Step) → length (stepBytes x) ≡ 12
 unfolding stepBytes
 step-size x = refl
-
-pub step-bytes : (x : Step) → AreBytes (stepBytes x)
-unfolding stepBytes
-step-bytes x =
-    let action = actionNumber (x .action) in
-    let kind = kindBeside (x .action) in
-    let number = numberBeside (x .action) in
-    let from-station = le32 (x .station) ++ le32 number in
-    bytes-append (le16 action) (le16 kind ++ from-station) (bytes-le16 action)
-    (bytes-append (le16 kind) from-station (bytes-le16 kind) (bytes-append (le32 (x .station)) (le32 number) (bytes-le32 (x .station)) (bytes-le32 number)))
 
 pub list-size : (l : List Step) → length (listBytes l) ≡ 12 * length l
 unfolding listBytes

@@ -2,7 +2,8 @@
 use borrow.Author.Needs.{needs}
 use mathlib.Core.Path.{refl, _∙_}
 use Prim.Native.Nat.{_+_, _-_}
-use Rattle.allowed.proofs.Holding.{left-held, right-held}
+use Rattle.line.specs.declared.Side.the-variants.{Left, Right}
+use Rattle.allowed.proofs.Holding.{removal-held}
 use Rattle.allowed.proofs.Verdicts.{standing-slot, standing-named}
 use Rattle.allowed.proofs.Putting.{PutTo, standing-clean, index-few, index-small, block-holds, chosen-held, chosen-whole, put-none, put-few, action-asked, put-asks, put-next, put-all}
 use Rattle.allowed.proofs.stations.put_station.Statement.{statement}
@@ -27,8 +28,8 @@ loop-holds c =
     let pre = numbers .before .before .before .before .before .before .before .pre in
     let s = pre .0 in
     put-none s (standing-named s refl (numbers .before .before .number-at .ensures))
-    (left-held _ (left .has-kind .ensures) ∙ block-holds s block _)
-    (right-held _ (right .has-kind2 .ensures) ∙ block-holds s block _)
+    (removal-held Left _ (left .has-kind .ensures) ∙ block-holds s block _)
+    (removal-held Right _ (right .has-kind2 .ensures) ∙ block-holds s block _)
     (c .before .nidec-at .ensures)
     (chosen-held s block _ (numbers .numbers-of .ensures) (chosen .0))
     (chosen-whole s block _ (numbers .numbers-of .ensures) (chosen .0))
