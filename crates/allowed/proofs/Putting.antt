@@ -17,11 +17,12 @@ use Rattle.lists.proofs.Keeping.{kept-mem}
 use Rattle.line.specs.declared.Action.{Action}
 use Rattle.line.specs.declared.Action.the-variants.{Timeout, Deliver, Exit}
 use Rattle.line.specs.declared.Content.the-variants.{RemoveLeft, RemoveRight}
+use Rattle.line.specs.declared.Leave.{Leave}
 use Rattle.line.specs.declared.Message.{Message}
 use Rattle.line.specs.declared.Side.the-variants.{Left, Right}
 use Rattle.line.specs.Message.{introduction, removal, same, precedes, holds}
 use Rattle.line.specs.Node.{Node, number, numbers, withBagInOrder}
-use Rattle.line.specs.Nidec.{nidec}
+use Rattle.line.specs.Leave.{leaveOf}
 use Rattle.index.specs.Index.{slotIn, numbersIn}
 use Rattle.block.specs.Layout.{nodeOf, faultOf}
 use Rattle.steps.specs.Steps.{stepBytes}
@@ -88,12 +89,12 @@ module _ {t index counts : List ℕ} {i : ℕ} (s : Standing t index counts i) w
         (λ q m e. undelivered (lineOf t) i line-rising line-place (introduction q) (sym (told q m) ∙ e)))
 
 -- the records of the first k actions are in
-pub record PutTo (l : List ℕ) (at : ℕ) (t index counts : List ℕ) (i station : ℕ) (left right nidecHolds : Bool) (n : ℕ) (b : List ℕ) (end k : ℕ) (m : List ℕ) : Type 0 where
+pub record PutTo (l : List ℕ) (at : ℕ) (t index counts : List ℕ) (i station : ℕ) (left right : Bool) (leave : Leave) (n : ℕ) (b : List ℕ) (end k : ℕ) (m : List ℕ) : Type 0 where
   pub standing : Standing t index counts i
   pub named : station ≡ number (nodeAt t i)
   pub left-is : left ≡ holds (removal Left) ((nodeAt t i) .bag)
   pub right-is : right ≡ holds (removal Right) ((nodeAt t i) .bag)
-  pub nidec-is : nidecHolds ≡ nidec (lineOf t) (nodeAt t i)
+  pub leave-is : leave ≡ leaveOf (lineOf t) (nodeAt t i)
   pub held : (q : ℕ) → Member q (take n b) → holds (introduction q) ((nodeAt t i) .bag) ≡ true
   pub counted : n ≡ length (take n b)
   pub few : n ≤ 64
@@ -104,17 +105,17 @@ pub record PutTo (l : List ℕ) (at : ℕ) (t index counts : List ℕ) (i statio
   pub wrote : Wrote l at text end m
   pub is : text ++ offered (lineOf t) (map (stepBy (nodeAt t i)) (drop k (actionsOf (take n b)))) ≡ offeredBy t i
 
-module _ {l t index counts : List ℕ} {at i station : ℕ} {left right nidecHolds : Bool} {n : ℕ} {b : List ℕ} where
+module _ {l t index counts : List ℕ} {at i station : ℕ} {left right : Bool} {leave : Leave} {n : ℕ} {b : List ℕ} where
   pub put-none : Standing t index counts i → station ≡ number (nodeAt t i) → left ≡ holds (removal Left) ((nodeAt t i) .bag) → right ≡ holds (removal Right) ((nodeAt t i) .bag)
-      → nidecHolds ≡ nidec (lineOf t) (nodeAt t i) → ((q : ℕ) → Member q (take n b) → holds (introduction q) ((nodeAt t i) .bag) ≡ true)
+      → leave ≡ leaveOf (lineOf t) (nodeAt t i) → ((q : ℕ) → Member q (take n b) → holds (introduction q) ((nodeAt t i) .bag) ≡ true)
       → offered (lineOf t) (map (stepBy (nodeAt t i)) (actionsOf (take n b))) ≡ offeredBy t i → n ≡ length (take n b) → n ≤ 64 → at + length (offeredBy t i) ≤ length l
-      → PutTo l at t index counts i station left right nidecHolds n b at 0 l
+      → PutTo l at t index counts i station left right leave n b at 0 l
   put-none s q e f w held whole c g h = record {
     standing = s;
     named = q;
     left-is = e;
     right-is = f;
-    nidec-is = w;
+    leave-is = w;
     held = held;
     counted = c;
     few = g;
@@ -126,7 +127,7 @@ module _ {l t index counts : List ℕ} {at i station : ℕ} {left right nidecHol
     is = whole;
   }
 
-  module _ {end k : ℕ} {m : List ℕ} (so-far : PutTo l at t index counts i station left right nidecHolds n b end k m) where
+  module _ {end k : ℕ} {m : List ℕ} (so-far : PutTo l at t index counts i station left right leave n b end k m) where
     pub put-few : n ≤ 64
     put-few = so-far .few
 
@@ -141,9 +142,9 @@ module _ {l t index counts : List ℕ} {at i station : ℕ} {left right nidecHol
       at-place = given ∙ action-place b n (so-far .counted) (so-far .few) k h
 
       -- whether its message is found
-      pub action-asked : {found : Bool} → found ≡ foundWith n k left right → Asked t index counts i nidecHolds found a
+      pub action-asked : {found : Bool} → found ≡ foundWith n k left right → Asked t index counts i leave found a
       unfolding removal
-      action-asked {found} f = record { standing = so-far .standing; nidec-is = λ _. so-far .nidec-is; found-is = f ∙ go (eqb k 0) (leb k n) (eqb k (n + 1)) (eqb k (n + 2)) refl refl given }
+      action-asked {found} f = record { standing = so-far .standing; leave-is = λ _. so-far .leave-is; found-is = f ∙ go (eqb k 0) (leb k n) (eqb k (n + 1)) (eqb k (n + 2)) refl refl given }
         where
           bag : List Message
           bag = (nodeAt t i) .bag
@@ -192,7 +193,7 @@ module _ {l t index counts : List ℕ} {at i station : ℕ} {left right nidecHol
             let s = so-far .size in
             (omega (arith, so-far .wrote .fits), λ (p : allowed ≡ true). let z : length bytes ≡ 12 = rw p (step-size (record { station = station; action = a })) in omega (arith, sizes))
 
-        pub put-next : {o : List ℕ} {r : ℕ} → Wrote m end bytes r o → PutTo l at t index counts i station left right nidecHolds n b r (k + 1) o
+        pub put-next : {o : List ℕ} {r : ℕ} → Wrote m end bytes r o → PutTo l at t index counts i station left right leave n b r (k + 1) o
         put-next w =
             let both = wrote-next (so-far .wrote) w in
             record {
@@ -200,7 +201,7 @@ module _ {l t index counts : List ℕ} {at i station : ℕ} {left right nidecHol
               named = so-far .named;
               left-is = so-far .left-is;
               right-is = so-far .right-is;
-              nidec-is = so-far .nidec-is;
+              leave-is = so-far .leave-is;
               held = so-far .held;
               counted = so-far .counted;
               few = so-far .few;

@@ -1,23 +1,21 @@
 -- A step of the station at place i, judged from the blocks where they lie: as the run judges it over the arrays read from them.
 use Prim.Native.Nat.{ℕ, _-_, _/_, _≤_, _<_}
 use mathlib.Core.Path.{_≡_, refl, sym, ap, _∙_}
-use mathlib.Core.Bool.{Bool, true, false, not, _&&_}
+use mathlib.Core.Bool.{Bool, true, false}
 use mathlib.Core.List.{List}
 use native.Mathlib.Omega.{arith}
-use lib.Dec.{eqb, leb, ltb}
+use lib.Dec.{eqb}
 use lib.ListN.{length, getD, take, replicate, List·getD-append, List·getD-map}
-use borrow.Author.Tests.{ne-eqb, eq-eqb, ltb-true, ltb-false, lt-leb, le-leb}
-use Rattle.lists.specs.Lists.{any}
 use Rattle.lists.specs.Places.{firstAt}
 use Rattle.lists.specs.Numbers.{Rising}
-use Rattle.lists.proofs.Firsts.{any-first}
 use Rattle.lists.proofs.Numbers.{first-at}
 use Rattle.line.specs.declared.Action.{Action}
+use Rattle.line.specs.declared.Leave.{Leave}
 use Rattle.line.specs.declared.Refusal.{Refusal}
 use Rattle.line.specs.declared.Station as declared
 use Rattle.line.specs.Answer.{isDone}
 use Rattle.line.specs.Node.{Line, number, nobody, withBagInOrder}
-use Rattle.line.specs.Nidec.{nidec}
+use Rattle.line.specs.Leave.{leaveOf}
 use Rattle.line.specs.Step.{step}
 use Rattle.index.specs.Index.{slotIn, numbersIn}
 use Rattle.index.proofs.Entries.{numbers-length}
@@ -25,16 +23,14 @@ use Rattle.block.specs.Layout.{stationOf, nodeOf}
 use Rattle.table.specs.Blocks.{blockAt, lineOf}
 use Rattle.table.specs.Index.{indexOf, indexArray}
 use Rattle.table.proofs.Indexing.{index-part, index-length}
-use Rattle.table.proofs.Lines.{clean-few, line-long, numbers-listed, numbers-rise, slot-within, line-at}
+use Rattle.table.proofs.Lines.{clean-few, numbers-listed, numbers-rise, slot-within, line-at}
 use Rattle.arrays.specs.Arrays.{lineIn}
 use Rattle.arrays.specs.Reading.{arraysOf}
 use Rattle.arrays.proofs.Lines.{slotOf}
 use Rattle.arrays.proofs.Tables.{filled-at, line-of-table}
 use Rattle.rules.specs.declared.Verdict.the-variants.{Done, Refused}
 use Rattle.moves.specs.declared.Plan.{Plan}
-use Rattle.moves.specs.Holders.{isHolder}
 use Rattle.moves.specs.Sends.{Plans}
-use Rattle.moves.proofs.Holding.{nidec-holders, empty-counted}
 use Rattle.effects.proofs.Starting.{starts-between}
 use Rattle.effects.proofs.Stores.{BetweenSteps, consistent-place, consistent-bag}
 use Rattle.effects.proofs.Judging.{Judged, tells}
@@ -84,21 +80,21 @@ module _ {t index counts : List ℕ} {i : ℕ} (s : Standing t index counts i) w
   standing-counted = rw (s .counted, ← same-slot) (between .consistent .tallied i in-table ∙ ap (λ (l : Line). length ((getD l i nobody) .bag)) same-line)
 
 -- The step judged.
-module _ {t index counts : List ℕ} {i : ℕ} {nidecHolds found : Bool} {a : Action} (k : Asked t index counts i nidecHolds found a) where
+module _ {t index counts : List ℕ} {i : ℕ} {l : Leave} {found : Bool} {a : Action} (k : Asked t index counts i l found a) where
   abbrev s : Standing t index counts i
   s = k .standing
 
-  module _ {b : List ℕ} (read : b ≡ blockAt t (slotIn (getD index i 0))) {station : declared.Station} (is : station ≡ stationOf b) {plan : Plan} (plans : Plans index counts i nidecHolds found station a plan) where
+  module _ {b : List ℕ} (read : b ≡ blockAt t (slotIn (getD index i 0))) {station : declared.Station} (is : station ≡ stationOf b) {plan : Plan} (plans : Plans index counts i l found station a plan) where
     at-place : getD (lineIn (arraysOf t)) i nobody ≡ nodeAt t i
     at-place = ap (λ (l : Line). getD l i nobody) (same-line s)
 
     judged : Judged (arraysOf t) (stepBy (nodeAt t i) a) i found plan
     judged = record {
-      nidecHolds = nidecHolds;
+      leave = l;
       between = between s;
       within = in-table s;
       found = rw (part s) (found-here s);
-      asked = λ e. k .nidec-is e ∙ rw (same-line s, ← consistent-place (between s .consistent) i (in-table s)) (ap (nidec (lineOf t)) (sym at-place));
+      asked = λ e. k .leave-is e ∙ rw (same-line s, ← consistent-place (between s .consistent) i (in-table s)) (ap (leaveOf (lineOf t)) (sym at-place));
       holds = k .found-is ∙ rw (consistent-bag (between s .consistent) i (in-table s), at-place);
       plans = rw (part s, ← (s .counted), same-slot s, filled-at t (slotIn (getD index i 0)) (standing-slot s) stationOf (nobody .station) (nobody .station), ← read, ← is) plans;
     }
@@ -111,29 +107,3 @@ module _ {t index counts : List ℕ} {i : ℕ} {nidecHolds found : Bool} {a : Ac
 
     pub is-refused : (r : Refusal) → plan .verdict ≡ Refused r → false ≡ isAllowed (lineOf t) (stepBy (nodeAt t i) a)
     is-refused r e = told (tells judged .1 r e)
-
--- not below is at or above
-not-below : (j n : ℕ) → not (ltb j n) ≡ leb n j
-not-below j n = go (ltb j n) refl
-  where
-    go : (b : Bool) → ltb j n ≡ b → not b ≡ leb n j
-    go true e = sym (lt-leb n j (ltb-true j n e))
-    go false e = sym (le-leb n j (ltb-false j n e))
-
--- NIDEC: what the count of its bag and the first who holds it say.
-module _ {t index counts : List ℕ} {i : ℕ} (s : Standing t index counts i) where
-  abbrev c : ℕ
-  c = getD counts (slotIn (getD index i 0)) 0
-
-  by-parts : nidec (lineOf t) (nodeAt t i) ≡ (eqb c 0 && not (any (isHolder (number (nodeAt t i))) (lineOf t)))
-  by-parts = nidec-holders (lineOf t) (nodeAt t i) ∙ rw (empty-counted ((nodeAt t i) .bag) c (standing-counted s))
-
-  pub nidec-full : (c ≡ 0 → ⊥) → false ≡ nidec (lineOf t) (nodeAt t i)
-  nidec-full h = sym (by-parts ∙ rw (ne-eqb c 0 h))
-
-  pub nidec-empty : c ≡ 0 → {q j : ℕ} → q ≡ number (nodeOf (blockAt t (slotIn (getD index i 0)))) → j ≡ firstAt (isHolder q) (lineOf t) → leb (length index) j ≡ nidec (lineOf t) (nodeAt t i)
-  nidec-empty h {q} {j} named first =
-      let here : q ≡ number (nodeAt t i) = standing-named s refl named in
-      let held : any (isHolder (number (nodeAt t i))) (lineOf t) ≡ ltb j (length index) =
-      any-first (isHolder (number (nodeAt t i))) (lineOf t) ∙ rw (first, here, line-long t index (s .clean) (s .listed)) in
-      sym (by-parts ∙ rw (eq-eqb c 0 h, held) (not-below j (length index)))

@@ -11,10 +11,11 @@ use Rattle.line.specs.declared.Action.{Action}
 use Rattle.line.specs.declared.Action.the-variants.{Timeout, Deliver, Exit}
 use Rattle.line.specs.declared.Content.the-variants.{Introduction, RemoveLeft, RemoveRight}
 use Rattle.line.specs.declared.Message.{Message}
+use Rattle.line.specs.declared.Leave.{Leave}
 use Rattle.line.specs.declared.Step.{Step}
 use Rattle.line.specs.Message.{kind}
 use Rattle.line.specs.Node.{Node, Line, numbers, nobody}
-use Rattle.line.specs.Nidec.{nidec}
+use Rattle.line.specs.Leave.{leaveOf}
 use Rattle.steps.specs.Steps.{listBytes}
 use Rattle.table.specs.Blocks.{lineOf}
 use Rattle.table.specs.Fault.{faultOf}
@@ -35,10 +36,10 @@ pub record Standing (t index counts : List ℕ) (i : ℕ) : Type 0 where
   pub counted : counts ≡ countsOf t
   pub within : i < length index
 
--- what a step of that station is asked with: whether NIDEC holds, of an exit, and whether its bag holds the message of a delivery
-pub record Asked (t index counts : List ℕ) (i : ℕ) (nidecHolds found : Bool) (a : Action) : Type 0 where
+-- what a step of that station is asked with: whether it may leave, of an exit, and whether its bag holds the message of a delivery
+pub record Asked (t index counts : List ℕ) (i : ℕ) (l : Leave) (found : Bool) (a : Action) : Type 0 where
   pub standing : Standing t index counts i
-  pub nidec-is : isExit a ≡ true → nidecHolds ≡ nidec (lineOf t) (nodeAt t i)
+  pub leave-is : isExit a ≡ true → l ≡ leaveOf (lineOf t) (nodeAt t i)
   pub found-is : found ≡ isFound a ((nodeAt t i) .bag)
 
 -- every number has 32 bits

@@ -3,7 +3,7 @@ use crate::bags::choose;
 use crate::bags::has_kind;
 use crate::bags::numbers_of;
 use crate::judging::is_allowed;
-use crate::judging::nidec_at;
+use leave::leave_at;
 use line::Action;
 use line::Content;
 use line::Message;
@@ -98,7 +98,7 @@ pub(crate) fn put_station(
     let chosen = choose(index, &numbers);
     let left = has_kind(b, 2);
     let right = has_kind(b, 3);
-    let nidec_holds = nidec_at(table, index, counts, i);
+    let leave = leave_at(table, index, i);
     let n = chosen.count;
     let introduced = chosen.numbers;
     let mut end = at;
@@ -106,7 +106,7 @@ pub(crate) fn put_station(
     while k < n + 4 {
         let action = action_of(introduced[(k + 63) % 64], n, k);
         let found = found_of(n, k, left, right);
-        let allowed = is_allowed(table, index, counts, i, nidec_holds, found, action);
+        let allowed = is_allowed(table, index, counts, i, leave, found, action);
         end = put_if(out, end, allowed, Step { station, action });
         k += 1;
     }

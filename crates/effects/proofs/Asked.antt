@@ -1,21 +1,21 @@
--- NIDEC asked of the stations in the arrays one after another.
+-- Who holds a station, asked of the stations in the arrays one after another.
 use Prim.Native.Nat.{ℕ, _+_, _≤_, _<_}
 use mathlib.Core.Path.{_≡_, sym, ap, _∙_}
 use mathlib.Core.Logic.{_⊎_, ⊎-elim}
-use mathlib.Core.Bool.{Bool, true, false, cond, not, _&&_, and-comm}
+use mathlib.Core.Bool.{Bool, true, false, cond}
+use mathlib.Core.List.{List}
 use native.Mathlib.Omega.{arith}
-use lib.Dec.{eqb, leb}
-use lib.ListN.{length, getD}
-use borrow.Author.Tests.{le-leb, lt-leb}
-use Rattle.lists.specs.Lists.{any}
+use lib.ListN.{length, getD, take}
+use Rattle.lists.specs.Places.{firstAt}
 use Rattle.line.specs.declared.Action.{Action}
 use Rattle.line.specs.Node.{Node, number, nobody}
-use Rattle.line.specs.Nidec.{isEmpty, nidec}
+use Rattle.line.specs.Leave.{isHolder, leaveOf}
+use Rattle.index.specs.Index.{numberIn, numbersIn}
 use Rattle.arrays.specs.Arrays.{Arrays, nodeAt, lineIn}
 use Rattle.arrays.proofs.Lines.{slotOf}
-use Rattle.moves.specs.Holders.{isExit, isHolder, mayHold}
-use Rattle.moves.proofs.Holding.{NoneTo, none-yet, none-next, holder-found, none-holds, nidec-holders, empty-counted, holds-not}
-use Rattle.effects.proofs.Stores.{Consistent, consistent-length, consistent-place}
+use Rattle.moves.specs.Holders.{isExit, mayHold, leaveFrom}
+use Rattle.moves.proofs.Holding.{NoneTo, none-yet, none-next, holder-found, none-holds, leave-counted, entry-ranged, holds-not}
+use Rattle.effects.proofs.Stores.{Consistent, BetweenSteps, consistent-length, consistent-place}
 
 -- j of the stations that are asked do not hold p; no more are asked than there are
 pub record Asking (a : Arrays) (p asked j : ℕ) : Type 0 where
@@ -57,21 +57,23 @@ module _ {a : Arrays} {p asked j : ℕ} (k : Asking a p asked j) where
 abbrev pub WalkEnded : Arrays → ℕ → ℕ → ℕ → Type 0
 WalkEnded a p asked j = (asked ≤ j) ⊎ ((j < asked) × (isHolder p (nodeAt a (slotOf a j)) ≡ true))
 
--- so an exit knows whether NIDEC holds for the station at place i
-pub asked-nidec : {a : Arrays} {asked j : ℕ} (i : ℕ) → i < a .n → (x : Action) → isExit x ≡ true → asked ≡ cond (isExit x) (a .n) 0
+-- so an exit knows whether the station at place i may leave, and what holds it
+pub asked-leave : {a : Arrays} {asked j : ℕ} (i : ℕ) → i < a .n → (x : Action) → isExit x ≡ true → asked ≡ cond (isExit x) (a .n) 0
     → Asking a (number (nodeAt a (slotOf a i))) asked j → WalkEnded a (number (nodeAt a (slotOf a i))) asked j
-    → (leb asked j && eqb (getD (a .counts) (slotOf a i) 0) 0) ≡ nidec (lineIn a) (nodeAt a (slotOf a i))
-asked-nidec {a} {asked} {j} i h x e all-asked k came =
+    → leaveFrom (numbersIn (take (a .n) (a .index))) (getD (a .counts) (slotOf a i) 0) j ≡ leaveOf (lineIn a) (nodeAt a (slotOf a i))
+asked-leave {a} {asked} {j} i h x e all-asked k came =
     let node = nodeAt a (slotOf a i) in
     let t = k .consistent in
     let all : asked ≡ a .n = all-asked ∙ rw e in
     let size : getD (a .counts) (slotOf a i) 0 ≡ length (node .bag) = t .tallied i h ∙ ap (λ (s : Node). length (s .bag)) (consistent-place t i h) in
-    let held : leb asked j ≡ not (any (isHolder (number node)) (lineIn a)) = go all came in
-    ap (λ (c : Bool). leb asked j && c) (sym (empty-counted (node .bag) (getD (a .counts) (slotOf a i) 0) size)) ∙ and-comm (leb asked j) (isEmpty (node .bag))
-    ∙ ap (λ (c : Bool). isEmpty (node .bag) && c) held ∙ sym (nidec-holders (lineIn a) node)
+    ap (λ (l : List ℕ). leaveFrom l (getD (a .counts) (slotOf a i) 0) j) (t .numbered)
+    ∙ leave-counted (lineIn a) node (rw (t .numbered) at (t .rising)) (getD (a .counts) (slotOf a i) 0) j size (first all came)
   where
-    go : asked ≡ a .n → (asked ≤ j) ⊎ ((j < asked) × (isHolder (number (nodeAt a (slotOf a i))) (nodeAt a (slotOf a j)) ≡ true)) → leb asked j ≡ not (any (isHolder (number (nodeAt a (slotOf a i)))) (lineIn a))
-    go all =
-        ⊎-elim
-        (λ e. le-leb asked j e ∙ sym (ap not (none-holds (k .none) (omega (arith, consistent-length (k .consistent))))))
-        (λ e. lt-leb asked j (e .0) ∙ sym (ap not (holder-found (k .none) (omega (arith, e .0, consistent-length (k .consistent))) (ap (isHolder (number (nodeAt a (slotOf a i)))) (consistent-place (k .consistent) j (omega (arith, e .0))) ∙ e .1))))
+    first : asked ≡ a .n → WalkEnded a (number (nodeAt a (slotOf a i))) asked j → j ≡ firstAt (isHolder (number (nodeAt a (slotOf a i)))) (lineIn a)
+    first all =
+        ⊎-elim (λ e. none-holds (k .none) (omega (arith, consistent-length (k .consistent))))
+        (λ e. holder-found (k .none) (omega (arith, e .0, consistent-length (k .consistent))) (ap (isHolder (number (nodeAt a (slotOf a i)))) (consistent-place (k .consistent) j (omega (arith, e .0))) ∙ e .1))
+
+-- and what the index tells of the holder is a station number
+pub holder-fits : {a : Arrays} → BetweenSteps a → (j : ℕ) → j < length (take (a .n) (a .index)) → numberIn (getD (take (a .n) (a .index)) j 0) ≤ 999999
+holder-fits {a} b = entry-ranged (lineIn a) (take (a .n) (a .index)) (b .sound .accepted) (b .consistent .numbered)

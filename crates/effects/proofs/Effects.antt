@@ -1,13 +1,14 @@
 -- One step over the arrays: what its stores make of the line.
 use Prim.Native.Nat.{ℕ, _<_}
 use mathlib.Core.Path.{_≡_, refl, sym, ap, _∙_}
-use mathlib.Core.Bool.{Bool, true, false, _&&_, cond}
+use mathlib.Core.Bool.{Bool, true, false, cond}
 use mathlib.Core.List.{List, List·Memᴰ·head as here}
 use native.Mathlib.Omega.{arith}
-use lib.Dec.{eqb, leb}
+use lib.Dec.{eqb}
 use lib.ListN.{length, getD, take, set}
 use Rattle.lists.specs.Places.{removeAt, firstAt}
 use Rattle.line.specs.declared.Message.{Message}
+use Rattle.line.specs.declared.Leave.{Leave}
 use Rattle.line.specs.declared.Step.{Step}
 use Rattle.line.specs.Answer.{done}
 use Rattle.line.specs.Node.{Node, Line, number, nobody}
@@ -25,13 +26,13 @@ use Rattle.rules.specs.declared.Verdict.the-variants.{Done}
 use Rattle.rules.specs.declared.Decision.{Decision}
 use Rattle.rules.specs.Decided.{rest}
 use Rattle.moves.specs.declared.Plan.{Plan}
-use Rattle.moves.specs.Holders.{isExit}
+use Rattle.moves.specs.Holders.{isExit, leaveFrom}
 use Rattle.moves.specs.Sends.{Plans, BagAfter}
 use Rattle.moves.proofs.Sending.{sent-fits}
 use Rattle.effects.proofs.Posting.{arrived}
 use Rattle.effects.proofs.Working.{step-stays, step-leaves, first-unmoved, second-unmoved, named, unfound}
 use Rattle.effects.proofs.Stores.{Consistent, BetweenSteps, bagAt, withBags, Arrived, consistent-bag, consistent-count, stored-line, stored-consistent, arrived-line, arrived-consistent, Dropped, dropped-line, dropped-numbered, dropped-consistent, OwnStored, withStation, station-line, station-consistent}
-use Rattle.effects.proofs.Asked.{Asking, WalkEnded, asked-nidec}
+use Rattle.effects.proofs.Asked.{Asking, WalkEnded, asked-leave}
 use Rattle.effects.proofs.Judging.{Judged, tidy, receiver, receiver-bound, first-slot, second-slot, first-count, second-count, decided, verdicts, fits}
 
 -- Everything that is read and worked out before the first store.
@@ -39,12 +40,12 @@ pub record Planned (a : Arrays) (x : Step) (i : ℕ) (taken : Taken) (plan : Pla
   pub judged : Judged a x i (taken .found) plan
   pub bag : BagAfter (x .action) (bagAt a (slotOf a i)) taken
 
-pub planned-by : {a : Arrays} {taken : Taken} {plan : Plan} {asked j : ℕ} (x : Step) (i : ℕ) → BetweenSteps a → i < a .n → i ≡ firstAt (eqb (x .station)) (numbersIn (take (a .n) (a .index)))
+pub planned-by : {a : Arrays} {taken : Taken} {plan : Plan} {asked j : ℕ} {l : Leave} (x : Step) (i : ℕ) → BetweenSteps a → i < a .n → i ≡ firstAt (eqb (x .station)) (numbersIn (take (a .n) (a .index)))
     → asked ≡ cond (isExit (x .action)) (a .n) 0 → Asking a (number (nodeAt a (slotOf a i))) asked j → WalkEnded a (number (nodeAt a (slotOf a i))) asked j
-    → BagAfter (x .action) (bagAt a (slotOf a i)) taken
-    → Plans (take (a .n) (a .index)) (a .counts) i (leb asked j && eqb (getD (a .counts) (slotOf a i) 0) 0) (taken .found) (getD (a .stations) (slotOf a i) (nobody .station)) (x .action) plan
+    → l ≡ leaveFrom (numbersIn (take (a .n) (a .index))) (getD (a .counts) (slotOf a i) 0) j → BagAfter (x .action) (bagAt a (slotOf a i)) taken
+    → Plans (take (a .n) (a .index)) (a .counts) i l (taken .found) (getD (a .stations) (slotOf a i) (nobody .station)) (x .action) plan
     → Planned a x i taken plan
-planned-by x i b h f e k came t p = record { judged = record { nidecHolds = _; between = b; within = h; found = f; asked = λ w. asked-nidec i h (x .action) w e k came; holds = t .found-is; plans = p }; bag = t }
+planned-by x i b h f e k came g t p = record { judged = record { leave = _; between = b; within = h; found = f; asked = λ w. g ∙ asked-leave i h (x .action) w e k came; holds = t .found-is; plans = p }; bag = t }
 
 module _ {a : Arrays} {x : Step} {i : ℕ} {taken : Taken} {plan : Plan} (k : Planned a x i taken plan) where
   abbrev j : Judged a x i (taken .found) plan

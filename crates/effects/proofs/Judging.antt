@@ -12,11 +12,12 @@ use Rattle.lists.specs.Numbers.{Rising}
 use Rattle.lists.proofs.Lists.{and-both}
 use Rattle.lists.proofs.Numbers.{found-there}
 use Rattle.line.specs.declared.Step.{Step}
+use Rattle.line.specs.declared.Leave.{Leave}
 use Rattle.line.specs.declared.Refusal.{Refusal}
 use Rattle.line.specs.declared.Refusal.the-variants.{Full}
 use Rattle.line.specs.Answer.{refused, isDone}
 use Rattle.line.specs.Node.{Line, numbers, nobody}
-use Rattle.line.specs.Nidec.{nidec}
+use Rattle.line.specs.Leave.{leaveOf}
 use Rattle.line.specs.Step.{step}
 use Rattle.line.proofs.Places.{place}
 use Rattle.bag.specs.Held.{ordered}
@@ -39,13 +40,13 @@ use Rattle.effects.proofs.Stores.{Consistent, BetweenSteps, bagAt, cons
 
 -- What is read and worked out of a step, whether it is stored or not; f says whether the station's bag holds the message of a delivery.
 pub record Judged (a : Arrays) (x : Step) (i : ℕ) (f : Bool) (plan : Plan) : Type 0 where
-  pub nidecHolds : Bool
+  pub leave : Leave
   pub between : BetweenSteps a
   pub within : i < a .n
   pub found : i ≡ firstAt (eqb (x .station)) (numbersIn (take (a .n) (a .index)))
-  pub asked : isExit (x .action) ≡ true → nidecHolds ≡ nidec (lineIn a) (nodeAt a (slotOf a i))
+  pub asked : isExit (x .action) ≡ true → leave ≡ leaveOf (lineIn a) (nodeAt a (slotOf a i))
   pub holds : f ≡ isFound (x .action) (ordered (bagAt a (slotOf a i)))
-  pub plans : Plans (take (a .n) (a .index)) (a .counts) i nidecHolds f (getD (a .stations) (slotOf a i) (nobody .station)) (x .action) plan
+  pub plans : Plans (take (a .n) (a .index)) (a .counts) i leave f (getD (a .stations) (slotOf a i) (nobody .station)) (x .action) plan
 
 -- what a station asks of the index before it plans
 pub plan-asks : {a : Arrays} (t : Consistent a) {i : ℕ} → i < a .n → (i < length (take (a .n) (a .index))) × Rising (numbersIn (take (a .n) (a .index)))
@@ -104,14 +105,14 @@ module _ {a : Arrays} {x : Step} {i : ℕ} {f : Bool} {plan : Plan} (k : Judged 
   pub second-count : c₂ ≡ length ((place line (receiver two)) .bag)
   second-count = ap (λ (s : ℕ). getD (a .counts) s 0) second-slot ∙ tidy .tallied (receiver two) (receiver-bound two)
 
-  pub decided : Decided line x i (k .nidecHolds) d
+  pub decided : Decided line x i (k .leave) d
   decided = record {
     sound = k .between .sound;
     within = in-line;
     found =
         sym (consistent-number tidy i (k .within)) ∙ ap (λ (j : ℕ). getD (numbersIn entries) j 0) (k .found)
         ∙ found-there (numbersIn entries) (x .station) (rw (← (k .found), numbers-length entries, ← consistent-taken tidy) (k .within));
-    asked = λ e. k .asked e ∙ ap (nidec line) (sym (consistent-place tidy i (k .within)));
+    asked = λ e. k .asked e ∙ ap (leaveOf line) (sym (consistent-place tidy i (k .within)));
     decides = rw (consistent-place tidy i (k .within)) (k .plans .decides (ordered (bagAt a (slotOf a i))) (k .holds));
   }
 

@@ -12,6 +12,8 @@ use Rattle.line.specs.declared.Message.{Message}
 use Rattle.line.specs.declared.Action.{Action}
 use Rattle.line.specs.declared.Action.the-variants.{Timeout, Deliver, Exit}
 use Rattle.line.specs.declared.Step as declared
+use Rattle.line.specs.declared.Leave.{Leave}
+use Rattle.line.specs.declared.Leave.the-variants.{May}
 use Rattle.line.specs.declared.Refusal.{Refusal}
 use Rattle.line.specs.declared.Refusal.the-variants.{NotInBag, Full}
 use Rattle.lists.specs.Lists.{all}
@@ -19,11 +21,11 @@ use Rattle.line.specs.Answer.{Answer, refused, done, _>>=_, require}
 use Rattle.line.specs.Node.{Node, Line, number, numbers, Present, nobody}
 use Rattle.line.specs.Links.{Linked}
 use Rattle.line.specs.Accepted.{Sided}
-use Rattle.line.specs.Nidec.{nidec}
+use Rattle.line.specs.Leave.{leaveOf}
 use Rattle.line.specs.Act.{Send, Effect, act}
 use Rattle.line.specs.Step.{replace, without, sendAll, hasRoom, commit, step}
 use Rattle.line.proofs.Answers.{require-true, require-false, refused-done}
-use Rattle.line.proofs.NidecTest.{nidec-tested}
+use Rattle.line.proofs.LeaveTest.{leave-tested}
 use Rattle.line.proofs.Local.{LinksKept, act-links}
 use Rattle.line.proofs.Sends.{Clear, clear-act}
 use Rattle.line.proofs.Whole.{Sound}
@@ -40,22 +42,22 @@ use Rattle.moves.specs.Holders.{isExit}
 use Rattle.moves.specs.Sends.{receiverOf, roomFor}
 use Rattle.effects.proofs.Posting.{arrived, receiver-within, receiver-there, send-one, room-one}
 
--- NIDEC is looked at by an exit only
-act-unless-exit : (a b : Bool) (s : Node) (c : Action) → (isExit c ≡ true → a ≡ b) → act b s c ≡ act a s c
+-- whether a station may leave is looked at by an exit only
+act-unless-exit : (a b : Leave) (s : Node) (c : Action) → (isExit c ≡ true → a ≡ b) → act b s c ≡ act a s c
 unfolding act
 act-unless-exit a b s Timeout h = refl
 act-unless-exit a b s (Deliver m) h = refl
-act-unless-exit a b s Exit h = ap (λ (t : Bool). act t s Exit) (sym (h refl))
+act-unless-exit a b s Exit h = ap (λ (l : Leave). act l s Exit) (sym (h refl))
 
 -- Station x .station stands at place i; d is its decision.
-pub record Decided (line : Line) (x : declared.Step) (i : ℕ) (nidecHolds : Bool) (d : Decision) : Type 0 where
+pub record Decided (line : Line) (x : declared.Step) (i : ℕ) (l : Leave) (d : Decision) : Type 0 where
   pub sound : Sound line
   pub within : i < length line
   pub found : number (place line i) ≡ x .station
-  pub asked : isExit (x .action) ≡ true → nidecHolds ≡ nidec line (place line i)
-  pub decides : Decides nidecHolds ((place line i) .station) ((place line i) .bag) (x .action) d
+  pub asked : isExit (x .action) ≡ true → l ≡ leaveOf line (place line i)
+  pub decides : Decides l ((place line i) .station) ((place line i) .bag) (x .action) d
 
-module _ {line : Line} {x : declared.Step} {i : ℕ} {nidecHolds : Bool} {d : Decision} (k : Decided line x i nidecHolds d) where
+module _ {line : Line} {x : declared.Step} {i : ℕ} {l : Leave} {d : Decision} (k : Decided line x i l d) where
   abbrev here-is : Node
   here-is = place line i
 
@@ -63,13 +65,13 @@ module _ {line : Line} {x : declared.Step} {i : ℕ} {nidecHolds : Bool} {d : De
   abbrev left : List Message
   left = rest (x .action) (here-is .bag)
 
-  acts : act (nidec line here-is) here-is (x .action) ≡ decided (d .verdict) (effect d left)
-  acts = act-unless-exit nidecHolds (nidec line here-is) here-is (x .action) (k .asked) ∙ sym (k .decides .says)
+  acts : act (leaveOf line here-is) here-is (x .action) ≡ decided (d .verdict) (effect d left)
+  acts = act-unless-exit l (leaveOf line here-is) here-is (x .action) (k .asked) ∙ sym (k .decides .says)
 
   steps : step line x ≡ (decided (d .verdict) (effect d left) >>= (λ (e : Effect). commit line (number here-is) e))
   unfolding step _>>=_
   steps =
-      ap (λ (a : Answer Node). a >>= (λ (s : Node). act (nidec line s) s (x .action) >>= (λ (e : Effect). commit line (number s) e)))
+      ap (λ (a : Answer Node). a >>= (λ (s : Node). act (leaveOf line s) s (x .action) >>= (λ (e : Effect). commit line (number s) e)))
       (find-at (x .station) line i nobody (k .sound .written .rising) (k .within) (k .found))
       ∙ ap (λ (a : Answer Effect). a >>= (λ (e : Effect). commit line (number here-is) e)) acts
 
@@ -80,7 +82,7 @@ module _ {line : Line} {x : declared.Step} {i : ℕ} {nidecHolds : Bool} {d : De
 
   -- it does not
   module _ (go : d .verdict ≡ Done) where
-    acted : act (nidec line here-is) here-is (x .action) ≡ done (effect d left)
+    acted : act (leaveOf line here-is) here-is (x .action) ≡ done (effect d left)
     acted = acts ∙ ap (λ v. decided v (effect d left)) go
 
     -- a step that is done and delivers nothing leaves the bag as it is
@@ -88,7 +90,7 @@ module _ {line : Line} {x : declared.Step} {i : ℕ} {nidecHolds : Bool} {d : De
     unfolding act
     unfound = same (x .action) acted
       where
-        same : (c : Action) {e : Effect} → act (nidec line here-is) here-is c ≡ done e → isFound c (here-is .bag) ≡ false → rest c (here-is .bag) ≡ here-is .bag
+        same : (c : Action) {e : Effect} → act (leaveOf line here-is) here-is c ≡ done e → isFound c (here-is .bag) ≡ false → rest c (here-is .bag) ≡ here-is .bag
         same Timeout e f = refl
         same (Deliver m) e f = refused-done (sym (require-false (holds m (here-is .bag)) NotInBag _ f) ∙ e)
         same Exit e f = refl
@@ -100,10 +102,10 @@ module _ {line : Line} {x : declared.Step} {i : ℕ} {nidecHolds : Bool} {d : De
     sided = k .sound .accepted .sided here-is there-is
 
     outcome : LinksKept line (number here-is) (Linked here-is) (effect d left .after) (effect d left .sends)
-    outcome = act-links line here-is sided (k .sound .accepted .small here-is there-is) (nidec line here-is) (nidec-tested line here-is .0) (x .action) acted
+    outcome = act-links line here-is sided (k .sound .accepted .small here-is there-is) (leaveOf line here-is) (leave-tested line here-is May .0) (x .action) acted
 
     clear : Clear (number here-is) (bothSent (d .sendings))
-    clear = clear-act here-is sided (nidec line here-is) (x .action) acted
+    clear = clear-act here-is sided (leaveOf line here-is) (x .action) acted
 
     -- whoever receives is linked, so has a block; and the station keeps its number
     reached : (m : Send) → Member m (bothSent (d .sendings)) → Linked here-is (m .to)

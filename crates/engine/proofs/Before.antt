@@ -1,17 +1,35 @@
--- What is refused before the first step, one law for each way through the code.
+-- What is refused before the first step: it is at most 9, and one law for each way through the code.
 use Prim.Native.Nat.{ℕ, _/_, _%_, _≤_, _<_}
 use mathlib.Core.Path.{_≡_, sym, _∙_}
 use mathlib.Core.Logic.{_≢_}
-use mathlib.Core.Bool.{true, false}
+use mathlib.Core.Bool.{true, false, cond}
 use mathlib.Core.List.{List}
 use native.Mathlib.Omega.{arith}
+use lib.Dec.{eqb}
 use lib.ListN.{length}
 use borrow.Author.Tests.{eq-eqb, ne-eqb, le-leb, lt-leb}
 use Rattle.table.specs.declared.Inspected.{Inspected}
 use Rattle.table.specs.Fault.{faultOf}
 use Rattle.table.specs.Index.{indexArray, Inspects}
+use Rattle.table.proofs.FaultLaws.{cond-most, fault-most}
 use Rattle.finishing.specs.Ended.{Outcome, runOf, endedWith}
 use Rattle.engine.specs.Ran.{listHolds, roomHolds, faultBefore, refusedWith, outcome}
+
+module _ (table steps room : List ℕ) where
+  -- it is at most m where 8 is, and what the room is refused with
+  within : (m : ℕ) → 8 ≤ m → cond (roomHolds table room) 0 9 ≤ m → faultBefore table steps room ≤ m
+  unfolding faultBefore
+  within m h k =
+      cond-most (eqb (faultOf table) 0) (cond (listHolds steps) (cond (roomHolds table room) 0 9) 8) (faultOf table)
+      (cond-most (listHolds steps) (cond (roomHolds table room) 0 9) 8 k h) (omega (arith, fault-most table))
+
+  pub before-most : faultBefore table steps room ≤ 9
+  before-most = within 9 (omega arith) (cond-most (roomHolds table room) 0 9 (omega arith) (omega arith))
+
+  -- the room is as long as the table
+  pub before-fits : length table ≤ length room → faultBefore table steps room ≤ 8
+  unfolding roomHolds
+  before-fits h = within 8 (omega arith) (rw (le-leb (length table) (length room) h) (omega arith))
 
 module _ (table steps room : List ℕ) {r : Inspected} (i : Inspects table r) where
   refuses : (n : ℕ) → n ≢ 0 → faultBefore table steps room ≡ n → refusedWith n room ≡ outcome table steps room

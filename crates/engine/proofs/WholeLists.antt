@@ -10,7 +10,7 @@ use lib.Dec.{eqb}
 use lib.ListN.{length, drop}
 use lib.Seq.{take-at}
 use borrow.Author.Tests.{eqb-true, eq-eqb}
-use Rattle.line.specs.Answer.{endingNumber}
+use Rattle.line.specs.declared.Answered.the-variants.{Ended}
 use Rattle.line.specs.Run as machine
 use Rattle.line.specs.Node.{Line, Present, Written, lower, withBagInOrder, inWrittenOrder}
 use Rattle.line.specs.Accepted.{Accepted}
@@ -133,7 +133,7 @@ receivers-agree t u steps room room′ h k a l =
     go true e =
         let r : runOf t steps ≡ runOf u steps = ap (λ (x : Line). machine.run x (stepsOf steps)) e in
         record {
-          answer = ap (λ (x : machine.Run). endingNumber (x .ending)) r;
+          answer = ap (λ (x : machine.Run). Ended (x .ending)) r;
           done = ap (λ (x : machine.Run). x .steps) r;
           stations = ap (λ (x : machine.Run). length (x .line)) r;
           written = table-in-ended t steps room h ∙ ap (λ (x : machine.Run). bytesOf (x .line)) r ∙ sym (table-in-ended u steps room′ k);

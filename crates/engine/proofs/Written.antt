@@ -29,18 +29,19 @@ none-faulty = written-accepted [] (record {
 }) (record { rising = tt; bags = λ s m. absurd (List·Memᴰ·not-nil m) }) .0
 
 -- a run that writes, or one that is refused before its first step
-either : (P : Outcome → Type 0) (t steps room : List ℕ) → (faultBefore t steps room ≡ 0 → P (endedWith (runOf t steps) room)) → ((n : ℕ) → P (refusedWith n room)) → P (outcome t steps room)
+pub either : (P : Outcome → Type 0) (t steps room : List ℕ) → (faultBefore t steps room ≡ 0 → P (endedWith (runOf t steps) room))
+    → P (refusedWith (faultBefore t steps room) room) → P (outcome t steps room)
 unfolding outcome
 either P t steps room f g = go (eqb (faultBefore t steps room) 0) refl
   where
     go : (b : Bool) → eqb (faultBefore t steps room) 0 ≡ b → P (cond b (endedWith (runOf t steps) room) (refusedWith (faultBefore t steps room) room))
     go true e = f (eqb-true (faultBefore t steps room) 0 e)
-    go false e = g (faultBefore t steps room)
+    go false e = g
 
 left-accepted : (t steps room : List ℕ) → faultOf (tableIn (outcome t steps room)) ≡ 0
 left-accepted t steps room =
     either (λ (o : Outcome). faultOf (tableIn o) ≡ 0) t steps room
-    (λ e. rw (accepted-outcome t steps room e) at (written-is-accepted t steps room e)) (λ n. none-faulty)
+    (λ e. rw (accepted-outcome t steps room e) at (written-is-accepted t steps room e)) none-faulty
 
 left-within : (t steps room : List ℕ) → 512 * (outcome t steps room) .stations ≤ length ((outcome t steps room) .room)
 left-within t steps room =
@@ -48,7 +49,7 @@ left-within t steps room =
     (λ e.
     let line = (runOf t steps) .line in
     omega (arith, length-append (bytesOf line) (drop (512 * length line) room), written-size line (after-sound t steps (table-fault t steps room e) .0 .small)))
-    (λ n. omega arith)
+    (omega arith)
 
 -- the same of what the code's answer says, with the room that it leaves
 module _ (t steps room : List ℕ) (r : Ran) (after : List ℕ) (e : said r after ≡ outcome t steps room) where

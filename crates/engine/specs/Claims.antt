@@ -13,7 +13,7 @@ use Rattle.table.specs.Fault.{faultOf}
 use Rattle.engine.specs.Ran.{faultBefore, outcome, tableIn}
 use Rattle.finishing.specs.Ended.{Outcome, runOf}
 
--- the same answer, counts and written bytes
+-- the same answer with its reason, the same counts and written bytes
 pub record SameOutcome (x y : Outcome) : Type 0 where
   pub answer : x .answer ≡ y .answer
   pub done : x .done ≡ y .done
@@ -21,7 +21,7 @@ pub record SameOutcome (x y : Outcome) : Type 0 where
   pub written : tableIn x ≡ tableIn y
 
 -- 1. Two receivers agree: accepted tables that are alike, whatever the order of their blocks and messages, give for every step list and
--- equal room lengths the same answer, counts and written bytes.
+-- equal room lengths the same answer, with the reason that it carries, and the same counts and written bytes.
 abbrev pub ReceiversAgree : Type 0
 ReceiversAgree =
     (t u steps room room′ : List ℕ) → faultOf t ≡ 0 → faultOf u ≡ 0 → Alike (nodes t) (nodes u) → length room ≡ length room′

@@ -4,6 +4,7 @@ use mathlib.Core.Bool.{Bool, cond, _&&_}
 use mathlib.Core.List.{List}
 use lib.Dec.{eqb, leb}
 use lib.ListN.{length, take}
+use Rattle.line.specs.declared.Answered.the-variants.{Refused}
 use Rattle.table.specs.Fault.{faultOf}
 use Rattle.finishing.specs.Ended.{Outcome, runOf, endedWith}
 
@@ -21,7 +22,7 @@ faultBefore table steps room = cond (eqb (faultOf table) 0) (cond (listHolds ste
 
 -- 1 to 9: 0 steps, 0 stations, the whole room as it was
 abbrev pub refusedWith : ℕ → List ℕ → Outcome
-refusedWith fault room = record { answer = fault; done = 0; stations = 0; room = room }
+refusedWith fault room = record { answer = Refused fault; done = 0; stations = 0; room = room }
 
 unfoldable pub outcome : List ℕ → List ℕ → List ℕ → Outcome
 outcome table steps room =

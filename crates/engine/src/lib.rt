@@ -1,5 +1,6 @@
 // The run over any bytes (document 01, "The numbers a crew may see" and "The whole run").
 use finishing::Ran;
+use line::Answered;
 use running::run_accepted;
 use table::inspect;
 ghost use mathlib.Core.Path.{_≡_};
@@ -14,28 +15,28 @@ pub fn run(table: &[u8], steps: &[u8], room: &mut [u8]) -> Ran
     let fault = inspected.fault;
     if fault != 0 {
         return Ran {
-            answer: fault,
+            answer: Answered::Refused(fault),
             done: 0,
             stations: 0,
         };
     }
     if steps.len() % 12 != 0 {
         return Ran {
-            answer: 8,
+            answer: Answered::Refused(8),
             done: 0,
             stations: 0,
         };
     }
     if 4096 < steps.len() / 12 {
         return Ran {
-            answer: 8,
+            answer: Answered::Refused(8),
             done: 0,
             stations: 0,
         };
     }
     if room.len() < table.len() {
         return Ran {
-            answer: 9,
+            answer: Answered::Refused(9),
             done: 0,
             stations: 0,
         };

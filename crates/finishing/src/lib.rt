@@ -1,5 +1,6 @@
 // How a run over an accepted table ends (document 01, "The whole run" and "The numbers a crew may see", 0 and 10 to 15).
 use arrays::write_line;
+use line::Answered;
 use line::Ending;
 use line::Message;
 use line::Station;
@@ -9,9 +10,9 @@ ghost use lib.ListN.{length};
 ghost use Rattle.arrays.specs.Arrays.{lineIn};
 ghost use Rattle.finishing.specs.Ended.{endedWith, said};
 
-// What a run returns: its number, the steps done and the stations now.
+// What a run returns: its answer, the steps done and the stations now.
 pub struct Ran {
-    pub answer: u32,
+    pub answer: Answered,
     pub done: u32,
     pub stations: u32,
 }
@@ -33,7 +34,7 @@ pub fn finish(
 {
     write_line(room, index, stations, bags, counts, n);
     Ran {
-        answer: ending.number(),
+        answer: Answered::Ended(ending),
         done: k as u32,
         stations: n as u32,
     }

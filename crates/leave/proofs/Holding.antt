@@ -8,7 +8,7 @@ use native.Mathlib.Nat.{le-of-suc-le-suc, not-suc-le-zero, eq-or-lt-of-le}
 use native.Mathlib.Numerals.{add-one}
 use native.Mathlib.Omega.{arith}
 use lib.Dec.{eqb}
-use lib.ListN.{length, getD, drop}
+use lib.ListN.{length, getD}
 use Rattle.lists.specs.Lists.{any}
 use Rattle.lists.specs.Places.{firstAt}
 use Rattle.lists.proofs.Lists.{any-append, sort-any}
@@ -18,6 +18,7 @@ use Rattle.line.specs.declared.Station as declared
 use Rattle.line.specs.Message.{introduction, same, holds, precedes}
 use Rattle.line.specs.Node.{Node, withBagInOrder, nobody}
 use Rattle.line.specs.Nidec.{isNeighbour, names}
+use Rattle.line.specs.Leave.{isHolder}
 use Rattle.fields.specs.declared.Place.{Place}
 use Rattle.fields.specs.Fields.{messageOf}
 use Rattle.octets.specs.Bytes.{word}
@@ -26,9 +27,8 @@ use Rattle.index.specs.Index.{slotIn}
 use Rattle.table.specs.Blocks.{blockAt, lineOf}
 use Rattle.table.specs.Fault.{faultOf}
 use Rattle.table.specs.Index.{indexOf}
-use Rattle.table.proofs.Lines.{line-from, line-end, line-at}
-use Rattle.moves.specs.Holders.{isHolder}
-use Rattle.moves.proofs.Holding.{holder-itself, holder-left, holder-right, holder-bag}
+use Rattle.table.proofs.Lines.{line-long, line-at}
+use Rattle.moves.proofs.Holding.{NoneTo, none-next, holder-found, none-holds, holder-itself, holder-left, holder-right, holder-bag}
 
 -- An introduction of p is known by its content.
 module _ (p : ℕ) (m : Message) where
@@ -119,28 +119,21 @@ holds-in-order : (p : ℕ) (s : Node) → isHolder p (withBagInOrder s) ≡ isHo
 unfolding names withBagInOrder
 holds-in-order p s = rw (sort-any precedes (same (introduction p)) (s .bag))
 
--- none of the first j stations holds p
-pub record NotBefore (p : ℕ) (t : List ℕ) (j : ℕ) : Type 0 where
-  pub is : firstAt (isHolder p) (lineOf t) ≡ j + firstAt (isHolder p) (drop j (lineOf t))
+-- None of the first j stations of an accepted table holds p.
+module _ (t index : List ℕ) (clean : faultOf t ≡ 0) (listed : index ≡ indexOf t) {p j : ℕ} (so-far : NoneTo p (lineOf t) j) where
+  size : length (lineOf t) ≡ length index
+  size = line-long t index clean listed
 
-pub not-before-first : (p : ℕ) (t : List ℕ) → NotBefore p t 0
-not-before-first p t = record { is = omega arith }
-
-module _ {p : ℕ} {t : List ℕ} {j : ℕ} (so-far : NotBefore p t j) where
   -- the block of the station at place j is asked
-  module _ (index : List ℕ) (clean : faultOf t ≡ 0) (listed : index ≡ indexOf t) (h : j < length index) {b : List ℕ} (read : b ≡ blockAt t (slotIn (getD index j 0)))
-      {x : Bool} (tells : x ≡ isHolder p (nodeOf b)) where
+  module _ (h : j < length index) {b : List ℕ} (read : b ≡ blockAt t (slotIn (getD index j 0))) {x : Bool} (tells : x ≡ isHolder p (nodeOf b)) where
     holds-here : isHolder p (getD (lineOf t) j nobody) ≡ x
     holds-here = ap (isHolder p) (line-at t index clean listed j h read) ∙ holds-in-order p (nodeOf b) ∙ sym tells
 
-    pub none-next : x ≡ false → NotBefore p t (j + 1)
-    unfolding firstAt
-    none-next e = record { is = so-far .is ∙ rw (line-from t index clean listed j h, holds-here, e) (omega arith) }
+    pub block-passed : x ≡ false → NoneTo p (lineOf t) (j + 1)
+    block-passed e = none-next so-far (omega (arith, size)) (holds-here ∙ e)
 
-    pub holder-found : x ≡ true → j ≡ firstAt (isHolder p) (lineOf t)
-    unfolding firstAt
-    holder-found e = sym (so-far .is ∙ rw (line-from t index clean listed j h, holds-here, e) (omega arith))
+    pub block-holds : x ≡ true → j ≡ firstAt (isHolder p) (lineOf t)
+    block-holds e = holder-found so-far (omega (arith, size)) (holds-here ∙ e)
 
-  pub none-holds : (index : List ℕ) → faultOf t ≡ 0 → index ≡ indexOf t → length index ≤ j → j ≡ firstAt (isHolder p) (lineOf t)
-  unfolding firstAt
-  none-holds index clean listed h = sym (so-far .is ∙ rw (line-end t index clean listed j h) (omega arith))
+  pub no-block-holds : length index ≤ j → j ≡ firstAt (isHolder p) (lineOf t)
+  no-block-holds h = none-holds so-far (omega (arith, size))

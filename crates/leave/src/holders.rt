@@ -18,7 +18,7 @@ ghost use Rattle.block.specs.Layout.{messages, nodeOf};
 ghost use Rattle.table.specs.Blocks.{lineOf};
 ghost use Rattle.table.specs.Fault.{faultOf};
 ghost use Rattle.table.specs.Index.{indexOf};
-ghost use Rattle.moves.specs.Holders.{isHolder};
+ghost use Rattle.line.specs.Leave.{isHolder};
 
 // Whether a message is an introduction of p.
 fn is_introduction(p: u32, message: Message) -> bool

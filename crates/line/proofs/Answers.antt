@@ -4,8 +4,12 @@ use mathlib.Core.Logic.{_⊎_, inl, inr}
 use mathlib.Core.Bool.{Bool, true, false}
 use Prim.Native.Nat.{ℕ}
 use native.Mathlib.Omega.{arith}
+use Rattle.line.specs.declared.Reason.{Reason}
+use Rattle.line.specs.declared.Leave.{Leave}
+use Rattle.line.specs.declared.Leave.the-variants.{May, MayNot}
 use Rattle.line.specs.declared.Refusal.{Refusal}
-use Rattle.line.specs.Answer.{Answer, refused, done, isDone, _>>=_, require}
+use Rattle.line.specs.declared.Refusal.the-variants.{Held}
+use Rattle.line.specs.Answer.{Answer, refused, done, isDone, _>>=_, require, unlessHeld}
 use Rattle.lists.proofs.Lists.{clash}
 
 pub done-inj : {A : Type 0} {a b : A} → done a ≡ done b → a ≡ b
@@ -58,3 +62,25 @@ pub required-refused : {A : Type 0} (t : Bool) (r : Refusal) {x : Answer A} {q :
 unfolding require
 required-refused true r e = inr (refl, e)
 required-refused false r e = inl (refl, cc)
+
+-- what is answered of a station that may leave, and of one that may not
+pub may-leave : {A : Type 0} {l : Leave} (x : Answer A) → l ≡ May → unlessHeld l x ≡ x
+unfolding unlessHeld
+may-leave x e = rw e
+
+pub may-not : {A : Type 0} {l : Leave} (why : Reason) (x : Answer A) → l ≡ MayNot why → unlessHeld l x ≡ refused (Held why)
+unfolding unlessHeld
+may-not why x e = rw e
+
+-- what was done by a station that may leave
+pub unheld : {A : Type 0} (l : Leave) {x : Answer A} {a : A} → unlessHeld l x ≡ done a → (l ≡ May) × (x ≡ done a)
+unfolding unlessHeld
+unheld May e = (refl, e)
+unheld (MayNot why) e = refused-done e
+
+-- what was refused of a station for a reason, or though it may leave
+pub unheld-refused : {A : Type 0} (l : Leave) {x : Answer A} {q : Refusal} → unlessHeld l x ≡ refused q
+    → ((why : Reason) × (l ≡ MayNot why) × (Held why ≡ q)) ⊎ ((l ≡ May) × (x ≡ refused q))
+unfolding unlessHeld
+unheld-refused May e = inr (refl, e)
+unheld-refused (MayNot why) e = inl (why, refl, cc)

@@ -11,6 +11,7 @@ use Rattle.line.specs.declared.Message.{Message}
 use Rattle.line.specs.declared.Action.{Action}
 use Rattle.line.specs.declared.Action.the-variants.{Timeout, Deliver, Exit}
 use Rattle.line.specs.declared.Step.{Step}
+use Rattle.line.specs.declared.Leave.the-variants.{MayNot}
 use Rattle.line.specs.declared.Refusal.{Refusal}
 use Rattle.line.specs.declared.Refusal.the-variants.{Malformed, Absent, NotInBag, Staying, Held, Full}
 use Rattle.lists.specs.Lists.{all}
@@ -18,15 +19,15 @@ use Rattle.lists.proofs.Lists.{clash, fails, all-true, all-false}
 use Rattle.line.specs.Answer.{refused, done, _>>=_}
 use Rattle.line.specs.Message.{holds, capacity}
 use Rattle.line.specs.Node.{Node, Line, number, leaving, Present}
-use Rattle.line.specs.Nidec.{Nidec, nidec}
+use Rattle.line.specs.Leave.{Why, leaveOf}
 use Rattle.line.specs.Act.{Send, Effect, act}
 use Rattle.line.specs.Step.{find, hasRoom, commit, step}
 use Rattle.line.specs.Accepted.{Accepted}
 use Rattle.line.specs.Cause.{BlockWith, Cause}
 use Rattle.line.specs.Claims.{RefusedExactly}
-use Rattle.line.proofs.Answers.{refused-done, bound-refused, after-done, after-refused, require-true, require-false, required-refused}
+use Rattle.line.proofs.Answers.{refused-done, bound-refused, after-done, after-refused, require-true, require-false, required-refused, may-not, unheld-refused}
 use Rattle.line.proofs.Messages.{held-mem, mem-held}
-use Rattle.line.proofs.NidecTest.{nidec-tested}
+use Rattle.line.proofs.LeaveTest.{leave-tested}
 use Rattle.line.proofs.Changes.{found, present-found, member-found, find-nowhere, room-true, room-false}
 
 module _ (line : Line) (ok : Accepted line) where
@@ -36,13 +37,13 @@ module _ (line : Line) (ok : Accepted line) where
   CauseAt s a Absent = ⊥
   CauseAt s a NotInBag = (m : Message) × (a ≡ Deliver m) × ¬ Member m (s .bag)
   CauseAt s a Staying = (a ≡ Exit) × (leaving s ≡ false)
-  CauseAt s a Held = (a ≡ Exit) × (leaving s ≡ true) × ¬ Nidec line s
+  CauseAt s a (Held why) = (a ≡ Exit) × (leaving s ≡ true) × Why line s why
   CauseAt s a Full =
-      (e : Effect) × (act (nidec line s) s a ≡ done e)
+      (e : Effect) × (act (leaveOf line s) s a ≡ done e)
       × (m : Send) × Member m (e .sends) × BlockWith line (m .to) (λ t. length (t .bag) ≡ capacity)
 
   -- what the station does by itself
-  act-refuses : (s : Node) (a : Action) {r : Refusal} → act (nidec line s) s a ≡ refused r → CauseAt s a r
+  act-refuses : (s : Node) (a : Action) {r : Refusal} → act (leaveOf line s) s a ≡ refused r → CauseAt s a r
   unfolding act
   act-refuses s Timeout e = refused-done (sym e)
   act-refuses s (Deliver m) e =
@@ -50,8 +51,8 @@ module _ (line : Line) (ok : Accepted line) where
       (required-refused (holds m (s .bag)) NotInBag e)
   act-refuses s Exit e =
       ⊎-elim (λ w. subst (CauseAt s Exit) (w .1) (refl, w .0))
-      (λ w. ⊎-elim (λ v. subst (CauseAt s Exit) (v .1) (refl, w .0, λ n. clash (nidec-tested line s .1 n) (v .0))) (λ v. refused-done (sym (v .1)))
-      (required-refused (nidec line s) Held (w .1)))
+      (λ w. ⊎-elim (λ v. subst (CauseAt s Exit) (v .2) (refl, w .0, leave-tested line s (MayNot (v .0)) .0 (v .1))) (λ v. refused-done (sym (v .1)))
+      (unheld-refused (leaveOf line s) (w .1)))
       (required-refused (leaving s) Staying e)
 
   -- what the receivers do to it
@@ -69,25 +70,25 @@ module _ (line : Line) (ok : Accepted line) where
       ))
       (λ w. refused-done (sym (w .1))) (required-refused (all (hasRoom line) (e .sends)) Full h)
 
-  refused-at : (s : Node) (a : Action) {r : Refusal} → (act (nidec line s) s a >>= commit line (number s)) ≡ refused r → CauseAt s a r
+  refused-at : (s : Node) (a : Action) {r : Refusal} → (act (leaveOf line s) s a >>= commit line (number s)) ≡ refused r → CauseAt s a r
   refused-at s a h =
       ⊎-elim (act-refuses s a) (λ w. let v = commit-refuses (number s) (w .0) (w .2) in subst (CauseAt s a) (v .0) (w .0, w .1, v .1, v .2, v .3))
-      (bound-refused (act (nidec line s) s a) (commit line (number s)) h)
+      (bound-refused (act (leaveOf line s) s a) (commit line (number s)) h)
 
   -- a cause has its effect
-  act-refused : (s : Node) (a : Action) (r : Refusal) → act (nidec line s) s a ≡ refused r → (act (nidec line s) s a >>= commit line (number s)) ≡ refused r
+  act-refused : (s : Node) (a : Action) (r : Refusal) → act (leaveOf line s) s a ≡ refused r → (act (leaveOf line s) s a >>= commit line (number s)) ≡ refused r
   act-refused s a r = after-refused (commit line (number s))
 
-  at-refused : (s : Node) (a : Action) (r : Refusal) → CauseAt s a r → (act (nidec line s) s a >>= commit line (number s)) ≡ refused r
+  at-refused : (s : Node) (a : Action) (r : Refusal) → CauseAt s a r → (act (leaveOf line s) s a >>= commit line (number s)) ≡ refused r
   unfolding act commit
   at-refused s a NotInBag c =
       act-refused s a NotInBag
-      (ap (act (nidec line s) s) (c .1) ∙ require-false (holds (c .0) (s .bag)) NotInBag _ (fails (holds (c .0) (s .bag)) (λ t. c .2 (held-mem (c .0) (s .bag) t))))
-  at-refused s a Staying c = act-refused s a Staying (ap (act (nidec line s) s) (c .0) ∙ require-false (leaving s) Staying _ (c .1))
-  at-refused s a Held c =
-      act-refused s a Held
-      (ap (act (nidec line s) s) (c .0) ∙ require-true (leaving s) Staying _ (c .1)
-      ∙ require-false (nidec line s) Held _ (fails (nidec line s) (λ t. c .2 (nidec-tested line s .0 t))))
+      (ap (act (leaveOf line s) s) (c .1) ∙ require-false (holds (c .0) (s .bag)) NotInBag _ (fails (holds (c .0) (s .bag)) (λ t. c .2 (held-mem (c .0) (s .bag) t))))
+  at-refused s a Staying c = act-refused s a Staying (ap (act (leaveOf line s) s) (c .0) ∙ require-false (leaving s) Staying _ (c .1))
+  at-refused s a (Held why) c =
+      act-refused s a (Held why)
+      (ap (act (leaveOf line s) s) (c .0) ∙ require-true (leaving s) Staying _ (c .1)
+      ∙ may-not why _ (leave-tested line s (MayNot why) .1 (c .2)))
   at-refused s a Full c =
       let t = c .4 in
       let room : hasRoom line (c .2) ≡ true → ⊥ = λ h. omega (arith, ltb-true (length (t .block .bag)) capacity (room-true (c .2) line h (t .block) (t .member) (t .named)), t .holds) in
@@ -95,14 +96,14 @@ module _ (line : Line) (ok : Accepted line) where
       ∙ require-false (all (hasRoom line) (c .0 .sends)) Full _ (fails (all (hasRoom line) (c .0 .sends)) (λ h. room (all-true (hasRoom line) h (c .3))))
 
   module _ (x : Step) where
-    acted : {s : Node} → find (x .station) line ≡ done s → step line x ≡ (act (nidec line s) s (x .action) >>= commit line (number s))
+    acted : {s : Node} → find (x .station) line ≡ done s → step line x ≡ (act (leaveOf line s) s (x .action) >>= commit line (number s))
     unfolding step
     acted e = after-done _ e
 
     at-block : (r : Refusal) {s : Node} → Member s line → number s ≡ x .station → CauseAt s (x .action) r → Cause line x r
     at-block NotInBag m e c = record { block = _; member = m; named = e; holds = c }
     at-block Staying m e c = record { block = _; member = m; named = e; holds = c }
-    at-block Held m e c = record { block = _; member = m; named = e; holds = c }
+    at-block (Held why) m e c = record { block = _; member = m; named = e; holds = c }
     at-block Full m e c = record { block = _; member = m; named = e; holds = c }
 
     absent : {r : Refusal} → find (x .station) line ≡ refused r → Cause line x r
@@ -129,7 +130,7 @@ module _ (line : Line) (ok : Accepted line) where
     effect-of Absent c = after-refused _ (find-nowhere (x .station) line c)
     effect-of NotInBag c = here-refused NotInBag _ (λ s h. h) c
     effect-of Staying c = here-refused Staying _ (λ s h. h) c
-    effect-of Held c = here-refused Held _ (λ s h. h) c
+    effect-of (Held why) c = here-refused (Held why) _ (λ s h. h) c
     effect-of Full c = here-refused Full _ (λ s h. h) c
 
 pub refused-exactly : RefusedExactly

@@ -9,7 +9,7 @@ pub mod Changes
 pub mod Places
 pub mod Sends
 pub mod Local
-pub mod NidecTest
+pub mod LeaveTest
 pub mod Whole
 pub mod Runs
 pub mod WrittenOrder

@@ -18,7 +18,9 @@ use Rattle.line.specs.declared.Message.{Message}
 use Rattle.line.specs.declared.Station as declared
 use Rattle.line.specs.declared.Side.{Side}
 use Rattle.line.specs.declared.Side.the-variants.{Left, Right}
-use Rattle.line.specs.declared.Refusal.the-variants.{NotInBag, Staying, Held}
+use Rattle.line.specs.declared.Leave.{Leave}
+use Rattle.line.specs.declared.Leave.the-variants.{May}
+use Rattle.line.specs.declared.Refusal.the-variants.{NotInBag, Staying}
 use Rattle.line.specs.declared.Action.{Action}
 use Rattle.line.specs.declared.Action.the-variants.{Timeout, Deliver, Exit}
 use Rattle.lists.specs.Lists.{Ordered}
@@ -29,7 +31,7 @@ use Rattle.line.specs.Links.{Linked, by-neighbour, by-introduction, Chai
 use Rattle.line.specs.Nidec.{Nidec}
 use Rattle.line.specs.Accepted.{Sided}
 use Rattle.line.specs.Act.{Send, send, sendTo, notice, timeout, Reaction, unchanged, meet, introduced, dropNeighbour, obeys, removed, received, introduceBoth, Effect, act}
-use Rattle.line.proofs.Answers.{done-inj, required}
+use Rattle.line.proofs.Answers.{done-inj, required, unheld}
 use Rattle.line.proofs.Messages.{introduction-inj, held-mem, GivenUp, gives-up}
 use Rattle.line.proofs.Chains.{forward, backward, equal}
 use Rattle.line.proofs.Sides.{station-inj, none-station, beyond-other, sideOf-beyond, changed-number, changed-marks, changed-neighbour, node, changed-links, links-changed, changed-sided}
@@ -285,15 +287,15 @@ module _ (line : Line) (s : Node) (ok : Sided s) (small : length (s .bag) ≤ ca
         l (λ y. ⊎-elim (λ z. equal (station-inj (sym p ∙ z))) (λ z. forward (here (ap (λ (n : ℕ). record { to = l; message = introduction n }) (station-inj (sym z ∙ q))))))
 
   -- every action
-  pub act-links : (nidecHolds : Bool) → (nidecHolds ≡ true → Nidec line s) → (a : Action) {e : Effect} → act nidecHolds s a ≡ done e → LinksKept line (number s) (Linked s) (e .after) (e .sends)
+  pub act-links : (l : Leave) → (l ≡ May → Nidec line s) → (a : Action) {e : Effect} → act l s a ≡ done e → LinksKept line (number s) (Linked s) (e .after) (e .sends)
   unfolding act
-  act-links nidecHolds n Timeout h = subst (λ (e : Effect). LinksKept line (number s) (Linked s) (e .after) (e .sends)) (done-inj h) timeout-kept
-  act-links nidecHolds n (Deliver m) h =
+  act-links l n Timeout h = subst (λ (e : Effect). LinksKept line (number s) (Linked s) (e .after) (e .sends)) (done-inj h) timeout-kept
+  act-links l n (Deliver m) h =
       let w = required (holds m (s .bag)) NotInBag h in
       subst (λ (e : Effect). LinksKept line (number s) (Linked s) (e .after) (e .sends)) (done-inj (w .1))
       (received-kept m (remove m (s .bag)) (held-mem m (s .bag) (w .0)) (gives-up m (s .bag)))
-  act-links nidecHolds n Exit h =
-      let w = required nidecHolds Held (required (leaving s) Staying h .1) in
+  act-links l n Exit h =
+      let w = unheld l (required (leaving s) Staying h .1) in
       subst (λ (e : Effect). LinksKept line (number s) (Linked s) (e .after) (e .sends)) (done-inj (w .1))
       (exit-gone (n (w .0)) (s .station .left) (s .station .right) refl refl)
 
@@ -335,10 +337,10 @@ module _ (p : declared.Station) where
   received-marks RemoveLeft = either-marks (obeys Left p) (dropNeighbour Left p (neighbour Left p)) (unchanged p) (dropped-marks Left (neighbour Left p)) refl
   received-marks RemoveRight = either-marks (obeys Right p) (dropNeighbour Right p (neighbour Right p)) (unchanged p) (dropped-marks Right (neighbour Right p)) refl
 
-pub act-keeps : (nidecHolds : Bool) (s : Node) (a : Action) {e : Effect} → act nidecHolds s a ≡ done e → KeepsIfThere s (e .after)
+pub act-keeps : (l : Leave) (s : Node) (a : Action) {e : Effect} → act l s a ≡ done e → KeepsIfThere s (e .after)
 unfolding act
-act-keeps nidecHolds s Timeout h = subst (λ (e : Effect). KeepsIfThere s (e .after)) (done-inj h) (record { marks = refl; order = λ o. o })
-act-keeps nidecHolds s (Deliver m) h =
+act-keeps l s Timeout h = subst (λ (e : Effect). KeepsIfThere s (e .after)) (done-inj h) (record { marks = refl; order = λ o. o })
+act-keeps l s (Deliver m) h =
     subst (λ (e : Effect). KeepsIfThere s (e .after)) (done-inj (required (holds m (s .bag)) NotInBag h .1))
     (record { marks = received-marks (s .station) (m .content); order = gives-up m (s .bag) .order })
-act-keeps nidecHolds s Exit h = subst (λ (e : Effect). KeepsIfThere s (e .after)) (done-inj (required nidecHolds Held (required (leaving s) Staying h .1) .1)) tt
+act-keeps l s Exit h = subst (λ (e : Effect). KeepsIfThere s (e .after)) (done-inj (unheld l (required (leaving s) Staying h .1) .1)) tt

@@ -14,7 +14,9 @@ use Rattle.line.specs.declared.Neighbour.the-variants.{None, Station}
 use Rattle.line.specs.declared.Content.{Content}
 use Rattle.line.specs.declared.Content.the-variants.{Introduction, RemoveLeft, RemoveRight}
 use Rattle.line.specs.declared.Message.{Message}
-use Rattle.line.specs.declared.Refusal.the-variants.{NotInBag, Staying, Held, Full}
+use Rattle.line.specs.declared.Leave.{Leave}
+use Rattle.line.specs.declared.Leave.the-variants.{May}
+use Rattle.line.specs.declared.Refusal.the-variants.{NotInBag, Staying, Full}
 use Rattle.line.specs.declared.Step as steps
 use Rattle.line.specs.declared.Side.{Side}
 use Rattle.line.specs.declared.Side.the-variants.{Left, Right}
@@ -24,7 +26,7 @@ use Rattle.lists.specs.Lists.{all}
 use Rattle.line.specs.Answer.{refused, done, _>>=_, require}
 use Rattle.line.specs.Message.{introduction, removal, holds, remove, put}
 use Rattle.line.specs.Node.{Node, Line, number, leaving}
-use Rattle.line.specs.Nidec.{nidec}
+use Rattle.line.specs.Leave.{leaveOf}
 use Rattle.line.specs.Accepted.{Sided, Accepted}
 use Rattle.line.specs.Act.{Send, sendTo, notice, timeout, received, introduceBoth, Effect, kept, act}
 use Rattle.line.specs.Step.{find, change, replace, withMessage, sendAll, hasRoom, commit, step}
@@ -32,10 +34,10 @@ use Rattle.line.specs.Report as report
 use Rattle.line.specs.Report.{process, isProcess, remleft, remright, Intro, Req, mail, Process, p, left, right, intro, req, not-leaving, defined, _and_, _⨾_, if_then_, if_then_else_, send_to_, exited, exit, handle, command, Guard, leftId, rightId, processOf, nodeOf, stateAfter, Fires}
 use Rattle.line.specs.Claims.{WithinCapacity, ReportAgrees, Apart}
 use Rattle.lists.proofs.Lists.{fails, true-all}
-use Rattle.line.proofs.Answers.{done-inj, refused-done, bound, require-true, require-false, required}
+use Rattle.line.proofs.Answers.{done-inj, refused-done, bound, require-true, require-false, required, may-leave, unheld}
 use Rattle.line.proofs.Messages.{held-mem, mem-held, receives, room-for}
 use Rattle.line.proofs.Sends.{Clear, clear-act}
-use Rattle.line.proofs.NidecTest.{nidec-tested}
+use Rattle.line.proofs.LeaveTest.{leave-tested}
 use Rattle.line.proofs.Whole.{Room, step-result}
 use Rattle.line.proofs.Causes.{refused-exactly}
 use Rattle.line.proofs.Changes.{found, member-found, takes-it, change-same, change-other, keeps-other, mem-without, receive-number, true-room}
@@ -160,32 +162,32 @@ module _ (line : Line) (s : Node) (ok : Sided s) where
       ap₂ (λ (k : List Send) (o : Option Node). sendAll k (replace (number s) o line)) (w .sent) (w .node)
 
   -- an action that the rules allow leads where the figure leads, and its guard holds
-  agrees : (nidecHolds : Bool) (a : Action) {e : Effect} → act nidecHolds s a ≡ done e → stateAfter line s a ≡ sendAll (e .sends) (replace (number s) (e .after) line)
+  agrees : (l : Leave) (a : Action) {e : Effect} → act l s a ≡ done e → stateAfter line s a ≡ sendAll (e .sends) (replace (number s) (e .after) line)
   unfolding act
-  agrees nidecHolds Timeout h = subst (λ (e : Effect). stateAfter line s Timeout ≡ sendAll (e .sends) (replace (number s) (e .after) line)) (done-inj h) timeout-agrees
-  agrees nidecHolds (Deliver m) h =
+  agrees l Timeout h = subst (λ (e : Effect). stateAfter line s Timeout ≡ sendAll (e .sends) (replace (number s) (e .after) line)) (done-inj h) timeout-agrees
+  agrees l (Deliver m) h =
       subst (λ (e : Effect). stateAfter line s (Deliver m) ≡ sendAll (e .sends) (replace (number s) (e .after) line)) (done-inj (required (holds m (s .bag)) NotInBag h .1)) (deliver-agrees m)
-  agrees nidecHolds Exit h =
+  agrees l Exit h =
       subst (λ (e : Effect). stateAfter line s Exit ≡ sendAll (e .sends) (replace (number s) (e .after) line))
-      (done-inj (required nidecHolds Held (required (leaving s) Staying h .1) .1)) exit-agrees
+      (done-inj (unheld l (required (leaving s) Staying h .1) .1)) exit-agrees
 
 -- The guard of the figure is what the rules ask.
 module _ (line : Line) (s : Node) where
-  guarded : (a : Action) {e : Effect} → act (nidec line s) s a ≡ done e → Guard line s a
+  guarded : (a : Action) {e : Effect} → act (leaveOf line s) s a ≡ done e → Guard line s a
   unfolding act
   guarded Timeout h = tt
   guarded (Deliver m) h = held-mem m (s .bag) (required (holds m (s .bag)) NotInBag h .0)
   guarded Exit h =
       let w = required (leaving s) Staying h in
-      (nidec-tested line s .0 (required (nidec line s) Held (w .1) .0), w .0)
+      (leave-tested line s May .0 (unheld (leaveOf line s) (w .1) .0), w .0)
 
-  allowed : (a : Action) → Guard line s a → (e : Effect) × (act (nidec line s) s a ≡ done e)
+  allowed : (a : Action) → Guard line s a → (e : Effect) × (act (leaveOf line s) s a ≡ done e)
   unfolding act
   allowed Timeout h = (record { after = some s; sends = timeout (s .station) }, refl)
   allowed (Deliver m) h = (kept (remove m (s .bag)) (received (s .station) (m .content)), require-true (holds m (s .bag)) NotInBag _ (mem-held m h))
   allowed Exit h = (
     record { after = none; sends = introduceBoth (s .station .left) (s .station .right) },
-    require-true (leaving s) Staying _ (h .1) ∙ require-true (nidec line s) Held _ (nidec-tested line s .1 (h .0)),
+    require-true (leaving s) Staying _ (h .1) ∙ may-leave _ (leave-tested line s May .1 (h .0)),
   )
 
 receive-bag : (m : Message) (t : Node) → (withMessage m t) .bag ≡ put m (t .bag)
@@ -255,7 +257,7 @@ module _ (line : Line) (x : steps.Step) (ok : Accepted line) where
     member : Member node line
     finds : find (x .station) line ≡ done node
     effect : Effect
-    acts : act (nidec line node) node (x .action) ≡ done effect
+    acts : act (leaveOf line node) node (x .action) ≡ done effect
 
   module _ (q : Parts) where
     room : Bool
@@ -278,12 +280,12 @@ module _ (line : Line) (x : steps.Step) (ok : Accepted line) where
       member = q .member;
       named = found (x .station) line (q .finds) .1;
       guard = guarded line (q .node) (x .action) (q .acts);
-      result = sym (agrees line (q .node) sided (nidec line (q .node)) (x .action) (q .acts));
+      result = sym (agrees line (q .node) sided (leaveOf line (q .node)) (x .action) (q .acts));
     }
 
     within : WithinCapacity after → room ≡ true
     unfolding after room
-    within w = within-room line (number (q .node)) (q .effect) (clear-act (q .node) sided (nidec line (q .node)) (x .action) (q .acts)) w
+    within w = within-room line (number (q .node)) (q .effect) (clear-act (q .node) sided (leaveOf line (q .node)) (x .action) (q .acts)) w
 
     is-done : room ≡ true → step line x ≡ done after
     is-done e = step-is ∙ require-true room Full (done after) e
@@ -305,14 +307,14 @@ module _ (line : Line) (x : steps.Step) (ok : Accepted line) where
 
   leads-there : {s : Line} (f : Fires line x s) → s ≡ after (parts-of f)
   unfolding after parts-of
-  leads-there f = f .result ∙ agrees line (f .node) (ok .sided (f .node) (f .member)) (nidec line (f .node)) (x .action) (allowed line (f .node) (x .action) (f .guard) .1)
+  leads-there f = f .result ∙ agrees line (f .node) (ok .sided (f .node) (f .member)) (leaveOf line (f .node)) (x .action) (allowed line (f .node) (x .action) (f .guard) .1)
 
   -- the parts of a step that is done, or refused for want of room
   parts-done : {s : Line} → step line x ≡ done s → Parts
   unfolding step
   parts-done e =
-      let w = bound (find (x .station) line) (λ (s : Node). act (nidec line s) s (x .action) >>= (λ (e : Effect). commit line (number s) e)) e in
-      let v = bound (act (nidec line (w .0)) (w .0) (x .action)) (λ (e : Effect). commit line (number (w .0)) e) (w .2) in
+      let w = bound (find (x .station) line) (λ (s : Node). act (leaveOf line s) s (x .action) >>= (λ (e : Effect). commit line (number s) e)) e in
+      let v = bound (act (leaveOf line (w .0)) (w .0) (x .action)) (λ (e : Effect). commit line (number (w .0)) e) (w .2) in
       record { node = w .0; member = found (x .station) line (w .1) .0; finds = w .1; effect = v .0; acts = v .1 }
 
   parts-full : step line x ≡ refused Full → Parts

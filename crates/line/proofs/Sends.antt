@@ -13,7 +13,8 @@ use Rattle.line.specs.declared.Neighbour.the-variants.{None, Station}
 use Rattle.line.specs.declared.Content.{Content}
 use Rattle.line.specs.declared.Content.the-variants.{Introduction, RemoveLeft, RemoveRight}
 use Rattle.line.specs.declared.Message.{Message}
-use Rattle.line.specs.declared.Refusal.the-variants.{NotInBag, Staying, Held}
+use Rattle.line.specs.declared.Leave.{Leave}
+use Rattle.line.specs.declared.Refusal.the-variants.{NotInBag, Staying}
 use Rattle.line.specs.declared.Side.{Side}
 use Rattle.line.specs.declared.Side.the-variants.{Left, Right}
 use Rattle.line.specs.declared.Action.{Action}
@@ -24,7 +25,7 @@ use Rattle.line.specs.Node.{Node, number, leaving, beyond, sideOf, neigh
 use Rattle.line.specs.Accepted.{Sided}
 use Rattle.line.specs.Act.{Send, send, sendTo, notice, timeout, unchanged, meet, introduced, dropNeighbour, obeys, removed, received, introduceBoth, Effect, act}
 use Rattle.line.specs.Claims.{Apart, SendsApart}
-use Rattle.line.proofs.Answers.{required, done-inj}
+use Rattle.line.proofs.Answers.{required, unheld, done-inj}
 use Rattle.line.proofs.Sides.{beyond-other}
 
 -- sends that go elsewhere than to station n, no two to one station
@@ -113,13 +114,13 @@ module _ (s : Node) (ok : Sided s) where
   clear-received RemoveLeft = clear-removed Left
   clear-received RemoveRight = clear-removed Right
 
-  pub clear-act : (nidecHolds : Bool) (a : Action) {e : Effect} → act nidecHolds s a ≡ done e → Clear (number s) (e .sends)
+  pub clear-act : (l : Leave) (a : Action) {e : Effect} → act l s a ≡ done e → Clear (number s) (e .sends)
   unfolding act
-  clear-act nidecHolds Timeout h = subst (λ (e : Effect). Clear (number s) (e .sends)) (done-inj h) clear-timeout
-  clear-act nidecHolds (Deliver m) h = subst (λ (e : Effect). Clear (number s) (e .sends)) (done-inj (required (holds m (s .bag)) NotInBag h .1)) (clear-received (m .content))
-  clear-act nidecHolds Exit h =
+  clear-act l Timeout h = subst (λ (e : Effect). Clear (number s) (e .sends)) (done-inj h) clear-timeout
+  clear-act l (Deliver m) h = subst (λ (e : Effect). Clear (number s) (e .sends)) (done-inj (required (holds m (s .bag)) NotInBag h .1)) (clear-received (m .content))
+  clear-act l Exit h =
       let v = required (leaving s) Staying h .1 in
-      subst (λ (e : Effect). Clear (number s) (e .sends)) (done-inj (required nidecHolds Held v .1)) (clear-exit (s .station .left) (s .station .right) refl refl)
+      subst (λ (e : Effect). Clear (number s) (e .sends)) (done-inj (unheld l v .1)) (clear-exit (s .station .left) (s .station .right) refl refl)
 
 pub sends-apart : SendsApart
-sends-apart nidecHolds s a e ok h = let c = clear-act s ok nidecHolds a h in (c .away, c .once)
+sends-apart l s a e ok h = let c = clear-act s ok l a h in (c .away, c .once)

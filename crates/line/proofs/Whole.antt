@@ -12,6 +12,7 @@ use lib.Dec.{eqb}
 use borrow.Author.Tests.{eq-eqb, ne-eqb}
 use lib.ListN.{length}
 use Rattle.line.specs.declared.Message.{Message}
+use Rattle.line.specs.declared.Leave.the-variants.{May}
 use Rattle.line.specs.declared.Refusal.the-variants.{Full}
 use Rattle.line.specs.declared.Step as declared
 use Rattle.lists.specs.Lists.{all, Ordered}
@@ -21,7 +22,7 @@ use Rattle.line.specs.Marks.{marksHold}
 use Rattle.line.specs.Node.{Node, Line, number, numbers, Present, Written}
 use Rattle.lists.specs.Numbers.{Distinct}
 use Rattle.line.specs.Links.{Linked, by-neighbour, by-introduction, Link, link, same-station, along, against, Joined}
-use Rattle.line.specs.Nidec.{nidec}
+use Rattle.line.specs.Leave.{leaveOf}
 use Rattle.line.specs.Accepted.{Sided, Accepted}
 use Rattle.line.specs.Act.{Send, Effect, act}
 use Rattle.line.specs.Step.{find, change, without, replace, withMessage, sendAll, hasRoom, commit, step}
@@ -30,7 +31,7 @@ use Rattle.lists.proofs.Lists.{all-true, mem-map, map-length}
 use Rattle.line.proofs.Answers.{bound, required, done-inj}
 use Rattle.line.proofs.Messages.{receives, room-for}
 use Rattle.line.proofs.Chains.{forward, equal, append, transport, carry}
-use Rattle.line.proofs.NidecTest.{nidec-tested}
+use Rattle.line.proofs.LeaveTest.{leave-tested}
 use Rattle.line.proofs.Changes.{node-of, unique, found, changed-mem, keeps-other, takes-it, changed-numbers, changed-all, receive-number, without-mem, mem-without, without-present, present-without, without-pairwise, without-length, room-true}
 use Rattle.line.proofs.Sends.{Clear, clear-act}
 use Rattle.line.proofs.Local.{Sent, Edge, own, sent, Fair, SelfOr, Remains, Gone, LinksKept, act-links, Keeps, KeepsIfThere, act-keeps}
@@ -321,14 +322,14 @@ replaced-room n (some u) line k h z r t m e =
 pub step-result : (line : Line) (x : declared.Step) {after : Line} → Accepted line → step line x ≡ done after → Result line after
 unfolding step commit replace
 step-result line x {after} ok e =
-    let w = bound (find (x .station) line) (λ (s : Node). act (nidec line s) s (x .action) >>= (λ (e : Effect). commit line (number s) e)) e in
-    let v = bound (act (nidec line (w .0)) (w .0) (x .action)) (λ (e : Effect). commit line (number (w .0)) e) (w .2) in
+    let w = bound (find (x .station) line) (λ (s : Node). act (leaveOf line s) s (x .action) >>= (λ (e : Effect). commit line (number s) e)) e in
+    let v = bound (act (leaveOf line (w .0)) (w .0) (x .action)) (λ (e : Effect). commit line (number (w .0)) e) (w .2) in
     let m = found (x .station) line (w .1) .0 in
     let sided = ok .sided (w .0) m in
     let r = required (all (hasRoom line) (v .0 .sends)) Full (v .2) in
     subst (Result line) (done-inj (r .1))
-    (go (w .0) m (v .0 .after) (v .0 .sends) (act-links line (w .0) sided (ok .small (w .0) m) (nidec line (w .0)) (nidec-tested line (w .0) .0) (x .action) (v .1))
-    (act-keeps (nidec line (w .0)) (w .0) (x .action) (v .1)) (clear-act (w .0) sided (nidec line (w .0)) (x .action) (v .1)) (λ k i. has-room k line (all-true (hasRoom line) (r .0) i)))
+    (go (w .0) m (v .0 .after) (v .0 .sends) (act-links line (w .0) sided (ok .small (w .0) m) (leaveOf line (w .0)) (leave-tested line (w .0) May .0) (x .action) (v .1))
+    (act-keeps (leaveOf line (w .0)) (w .0) (x .action) (v .1)) (clear-act (w .0) sided (leaveOf line (w .0)) (x .action) (v .1)) (λ k i. has-room k line (all-true (hasRoom line) (r .0) i)))
   where
     go : (s : Node) → Member s line → (o : Option Node) (l : List Send) → LinksKept line (number s) (Linked s) o l → KeepsIfThere s o → Clear (number s) l → ((k : Send) → Member k l → Room line k)
         → Result line (sendAll l (replace (number s) o line))

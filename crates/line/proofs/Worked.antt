@@ -1,8 +1,8 @@
--- The situations and the further examples hold: each is computed. So are the lines with what is said of them.
-use mathlib.Core.Path.{_≡_, refl, sym, subst, _∙_}
+-- The situations and the further examples hold: each is computed. So are the lines with what is said of them, and of their stations.
+use mathlib.Core.Path.{_≡_, refl, sym, subst, ap, _∙_}
 use mathlib.Core.Logic.{_↔_}
 use mathlib.Core.Bool.{Bool, true, false}
-use mathlib.Core.List.{List, [], _∷_, List·Memᴰ, List·Memᴰ·head, List·Memᴰ·tail, List·Memᴰ·not-nil, Memᴰ·cast}
+use mathlib.Core.List.{List, [], _∷_, map, List·Memᴰ, List·Memᴰ·head, List·Memᴰ·tail, List·Memᴰ·not-nil, Memᴰ·cast}
 use Prim.Native.Nat.{ℕ}
 use lib.Dec.{eqb}
 use borrow.Author.Tests.{eqb-true, eq-eqb}
@@ -11,11 +11,14 @@ use Rattle.lists.proofs.Lists.{clash, any-true, true-any}
 use Rattle.lists.proofs.Numbers.{rises-rising}
 use Rattle.line.specs.declared.Message.{Message}
 use Rattle.line.specs.declared.Side.the-variants.{Left}
-use Rattle.line.specs.Answer.{_>>=_, require}
+use Rattle.line.specs.declared.Leave.{Leave}
+use Rattle.line.specs.declared.Leave.the-variants.{May, MayNot}
+use Rattle.line.specs.Answer.{_>>=_, require, unlessHeld}
 use Rattle.line.specs.Message.{introduction, removal, same, precedes}
 use Rattle.line.specs.Marks.{marksHold}
-use Rattle.line.specs.Node.{Node, number, numbers, beyond, sideOf, withNeighbour}
-use Rattle.line.specs.Nidec.{isNeighbour, names, isEmpty, nidec}
+use Rattle.line.specs.Node.{Node, Line, number, numbers, beyond, sideOf, withNeighbour}
+use Rattle.line.specs.Nidec.{Nidec, isNeighbour, names, isEmpty}
+use Rattle.line.specs.Leave.{holderOf, leaveOf}
 use Rattle.line.specs.Act.{sendTo, notice, timeout, meet, introduced, dropNeighbour, removed, received, introduceBoth, act}
 use Rattle.line.specs.Run.{try, run}
 use Rattle.line.specs.Step.{find, change, without, replace, withMessage, sendAll, hasRoom, commit, step}
@@ -23,9 +26,9 @@ use Rattle.line.specs.Accepted.{inRange, hasSmallBag, liesBeyond, hasSid
 use Rattle.line.specs.InLine.{isSame, first, inLineAfter, inLine}
 use Rattle.lists.specs.Numbers.{rises, areDistinct}
 use Rattle.line.specs.Situations.{Holds, situations}
-use Rattle.line.specs.Examples.{examples, LineExample, Says, Shows, lineExamples}
-use Rattle.line.specs.Claims.{SituationsHold, ExamplesHold, LineExamplesShow}
-use Rattle.line.proofs.NidecTest.{nidec-tested}
+use Rattle.line.specs.Examples.{examples, LineExample, Says, Shows, lineExamples, LeaveExample, Answers, leaveExamples}
+use Rattle.line.specs.Claims.{SituationsHold, ExamplesHold, LineExamplesShow, LeaveExamplesShow}
+use Rattle.line.proofs.LeaveTest.{leave-is, leave-tested}
 use Rattle.line.proofs.InLineTest.{in-line-tested}
 
 -- what is shown of each element of a list holds of every member
@@ -38,12 +41,24 @@ each P h x (List·Memᴰ·head e) = subst P (sym e) (h .0)
 each P h x (List·Memᴰ·tail m) = each P (h .1) x m
 
 pub situations-hold : SituationsHold
-unfolding accepted marksHold inRange hasSmallBag liesBeyond hasSides areDistinct isPresent knowsNeighbour knowsContent namesPresent all any insert removeFirst require _>>=_ removal same precedes beyond sideOf withNeighbour isNeighbour names isEmpty nidec sendTo notice timeout meet introduced dropNeighbour removed received introduceBoth act find change without replace withMessage sendAll hasRoom commit step try run situations
+unfolding accepted marksHold inRange hasSmallBag liesBeyond hasSides areDistinct isPresent knowsNeighbour knowsContent namesPresent all any insert removeFirst require _>>=_ removal same precedes beyond sideOf withNeighbour isNeighbour names isEmpty holderOf leaveOf unlessHeld sendTo notice timeout meet introduced dropNeighbour removed received introduceBoth act find change without replace withMessage sendAll hasRoom commit step try run situations
 situations-hold = each Holds (record { accepts = refl; answers = refl; counts = refl; leaves = refl }, (record { accepts = refl; answers = refl; counts = refl; leaves = refl }, (record { accepts = refl; answers = refl; counts = refl; leaves = refl }, (record { accepts = refl; answers = refl; counts = refl; leaves = refl }, (record { accepts = refl; answers = refl; counts = refl; leaves = refl }, (record { accepts = refl; answers = refl; counts = refl; leaves = refl }, (record { accepts = refl; answers = refl; counts = refl; leaves = refl }, (record { accepts = refl; answers = refl; counts = refl; leaves = refl }, (record { accepts = refl; answers = refl; counts = refl; leaves = refl }, (record { accepts = refl; answers = refl; counts = refl; leaves = refl }, (record { accepts = refl; answers = refl; counts = refl; leaves = refl }, tt)))))))))))
 
 pub examples-hold : ExamplesHold
-unfolding accepted marksHold inRange hasSmallBag liesBeyond hasSides areDistinct isPresent knowsNeighbour knowsContent namesPresent all any insert removeFirst require _>>=_ removal same precedes beyond sideOf withNeighbour isNeighbour names isEmpty nidec sendTo notice timeout meet introduced dropNeighbour removed received introduceBoth act find change without replace withMessage sendAll hasRoom commit step try run examples
+unfolding accepted marksHold inRange hasSmallBag liesBeyond hasSides areDistinct isPresent knowsNeighbour knowsContent namesPresent all any insert removeFirst require _>>=_ removal same precedes beyond sideOf withNeighbour isNeighbour names isEmpty holderOf leaveOf unlessHeld sendTo notice timeout meet introduced dropNeighbour removed received introduceBoth act find change without replace withMessage sendAll hasRoom commit step try run examples
 examples-hold = each Holds (record { accepts = refl; answers = refl; counts = refl; leaves = refl }, (record { accepts = refl; answers = refl; counts = refl; leaves = refl }, (record { accepts = refl; answers = refl; counts = refl; leaves = refl }, (record { accepts = refl; answers = refl; counts = refl; leaves = refl }, (record { accepts = refl; answers = refl; counts = refl; leaves = refl }, (record { accepts = refl; answers = refl; counts = refl; leaves = refl }, (record { accepts = refl; answers = refl; counts = refl; leaves = refl }, (record { accepts = refl; answers = refl; counts = refl; leaves = refl }, (record { accepts = refl; answers = refl; counts = refl; leaves = refl }, (record { accepts = refl; answers = refl; counts = refl; leaves = refl }, (record { accepts = refl; answers = refl; counts = refl; leaves = refl }, (record { accepts = refl; answers = refl; counts = refl; leaves = refl }, (record { accepts = refl; answers = refl; counts = refl; leaves = refl }, (record { accepts = refl; answers = refl; counts = refl; leaves = refl }, (record { accepts = refl; answers = refl; counts = refl; leaves = refl }, (record { accepts = refl; answers = refl; counts = refl; leaves = refl }, (record { accepts = refl; answers = refl; counts = refl; leaves = refl }, (record { accepts = refl; answers = refl; counts = refl; leaves = refl }, (record { accepts = refl; answers = refl; counts = refl; leaves = refl }, (record { accepts = refl; answers = refl; counts = refl; leaves = refl }, (record { accepts = refl; answers = refl; counts = refl; leaves = refl }, (record { accepts = refl; answers = refl; counts = refl; leaves = refl }, (record { accepts = refl; answers = refl; counts = refl; leaves = refl }, (record { accepts = refl; answers = refl; counts = refl; leaves = refl }, (record { accepts = refl; answers = refl; counts = refl; leaves = refl }, tt)))))))))))))))))))))))))
+
+-- whether a station may leave, as a test
+abbrev isMay : Leave → Bool
+isMay May = true
+isMay (MayNot why) = false
+
+may-tested : (line : Line) (s : Node) → (isMay (leaveOf line s) ≡ true) ↔ Nidec line s
+may-tested line s = (λ e. leave-tested line s May .0 (go (leaveOf line s) e), λ n. ap isMay (leave-tested line s May .1 n))
+  where
+    go : (l : Leave) → isMay l ≡ true → l ≡ May
+    go May e = refl
+    go (MayNot why) e = clash e refl
 
 -- What is computed of a line, and what it says by the claims about the tests.
 record Computed (x : LineExample) : Type 0 where
@@ -51,7 +66,7 @@ record Computed (x : LineExample) : Type 0 where
   rise : rises (numbers (x .line)) ≡ true
   order : Each (λ (s : Node). Ordered precedes (s .bag)) (x .line)
   in-line : inLine (x .line) ≡ x .inLine
-  free : Each (λ (s : Node). nidec (x .line) s ≡ any (eqb (number s)) (x .free)) (x .line)
+  free : Each (λ (s : Node). isMay (leaveOf (x .line) s) ≡ any (eqb (number s)) (x .free)) (x .line)
 
 says : {P : Type 0} (b t : Bool) → t ≡ b → (t ≡ true) ↔ P → Says b P
 says true t e f = f .0 e
@@ -67,14 +82,14 @@ shows : (x : LineExample) → Computed x → Shows x
 shows x c = record {
   accepts = c .accepts;
   in-line = says (x .inLine) (inLine (x .line)) (c .in-line) (in-line-tested (x .line) (record { rising = rises-rising (numbers (x .line)) (c .rise); bags = each (λ (s : Node). Ordered precedes (s .bag)) (c .order) }));
-  free = λ s m. free-says (x .free) (number s) (nidec (x .line) s) (each (λ (s : Node). nidec (x .line) s ≡ any (eqb (number s)) (x .free)) (c .free) s m) (nidec-tested (x .line) s);
+  free = λ s m. free-says (x .free) (number s) (isMay (leaveOf (x .line) s)) (each (λ (s : Node). isMay (leaveOf (x .line) s) ≡ any (eqb (number s)) (x .free)) (c .free) s m) (may-tested (x .line) s);
 }
 
 nothing-behind : (m y : Message) → List·Memᴰ y [] → precedes y m ≡ false
 nothing-behind m y k = absurd (List·Memᴰ·not-nil k)
 
 pub line-examples-show : LineExamplesShow
-unfolding accepted marksHold inRange hasSmallBag liesBeyond hasSides areDistinct isPresent knowsNeighbour knowsContent namesPresent all any removal same beyond isNeighbour names isEmpty nidec rises isSame first inLineAfter inLine lineExamples
+unfolding accepted marksHold inRange hasSmallBag liesBeyond hasSides areDistinct isPresent knowsNeighbour knowsContent namesPresent all any removal same beyond isNeighbour names isEmpty holderOf leaveOf unlessHeld rises isSame first inLineAfter inLine lineExamples
 line-examples-show x m = shows x (each Computed (
   record { accepts = refl; rise = refl; order = tt; in-line = refl; free = tt },
   (
@@ -97,3 +112,21 @@ line-examples-show x m = shows x (each Computed (
     ),
   ),
 ) x m)
+
+-- What is computed of the stations of a line, and what it says by the claim about the test.
+record Asked (x : LeaveExample) : Type 0 where
+  accepts : accepted (x .line) ≡ true
+  leaves : map (leaveOf (x .line)) (x .line) ≡ x .leaves
+
+answers : (line rest : Line) → Answers line rest (map (leaveOf line) rest)
+answers line [] = tt
+answers line (s ∷ rest) = (leave-is line s, answers line rest)
+
+pub leave-examples-show : LeaveExamplesShow
+unfolding accepted marksHold inRange hasSmallBag liesBeyond hasSides areDistinct isPresent knowsNeighbour knowsContent namesPresent all any removal same beyond isNeighbour names isEmpty holderOf leaveOf leaveExamples
+leave-examples-show x m =
+    let c = each Asked (
+      record { accepts = refl; leaves = refl },
+      (record { accepts = refl; leaves = refl }, (record { accepts = refl; leaves = refl }, (record { accepts = refl; leaves = refl }, (record { accepts = refl; leaves = refl }, (record { accepts = refl; leaves = refl }, tt))))),
+    ) x m in
+    record { accepts = c .accepts; leaves = subst (Answers (x .line) (x .line)) (c .leaves) (answers (x .line) (x .line)) }

@@ -1,5 +1,5 @@
 -- What a step does at its own station (document 01, "What a step does at station p").
--- Nothing here looks beyond the station, its bag and whether NIDEC holds for it.
+-- Nothing here looks beyond the station, its bag and whether it may leave.
 use Prim.Native.Nat.{ℕ}
 use mathlib.Core.Bool.{Bool, true, cond, not}
 use mathlib.Core.Option.{Option, none, some}
@@ -15,8 +15,9 @@ use Rattle.line.specs.declared.Side.{Side}
 use Rattle.line.specs.declared.Side.the-variants.{Left, Right}
 use Rattle.line.specs.declared.Action.{Action}
 use Rattle.line.specs.declared.Action.the-variants.{Timeout, Deliver, Exit}
-use Rattle.line.specs.declared.Refusal.the-variants.{NotInBag, Staying, Held}
-use Rattle.line.specs.Answer.{Answer, done, require}
+use Rattle.line.specs.declared.Leave.{Leave}
+use Rattle.line.specs.declared.Refusal.the-variants.{NotInBag, Staying}
+use Rattle.line.specs.Answer.{Answer, done, require, unlessHeld}
 use Rattle.line.specs.Message.{introduction, removal, holds, remove}
 use Rattle.line.specs.Node.{Node, leaving, opposite, beyond, sideOf, neighbour, withNeighbour}
 
@@ -94,10 +95,10 @@ pub record Effect : Type 0 where
 abbrev pub kept : List Message → Reaction → Effect
 kept b r = record { after = some (record { station = r .station; bag = b }); sends = r .sends }
 
--- nidecHolds says whether NIDEC holds for s
-unfoldable pub act : Bool → Node → Action → Answer Effect
-act nidecHolds s Timeout = done (record { after = some s; sends = timeout (s .station) })
-act nidecHolds s (Deliver m) = require (holds m (s .bag)) NotInBag (done (kept (remove m (s .bag)) (received (s .station) (m .content))))
-act nidecHolds s Exit =
+-- l says whether s may leave, and what holds it
+unfoldable pub act : Leave → Node → Action → Answer Effect
+act l s Timeout = done (record { after = some s; sends = timeout (s .station) })
+act l s (Deliver m) = require (holds m (s .bag)) NotInBag (done (kept (remove m (s .bag)) (received (s .station) (m .content))))
+act l s Exit =
     require (leaving s) Staying
-    (require nidecHolds Held (done (record { after = none; sends = introduceBoth (s .station .left) (s .station .right) })))
+    (unlessHeld l (done (record { after = none; sends = introduceBoth (s .station .left) (s .station .right) })))

@@ -2,10 +2,12 @@
 use Prim.Native.Nat.{ℕ, _≤_}
 use mathlib.Core.Path.{_≡_}
 use mathlib.Core.Logic.{_↔_, _≢_}
-use mathlib.Core.Bool.{Bool, true}
+use mathlib.Core.Bool.{true}
 use mathlib.Core.List.{List, [], _∷_}
 use mathlib.Core.List.{List·Memᴰ as Member}
 use lib.ListN.{length}
+use Rattle.line.specs.declared.Reason.{Reason}
+use Rattle.line.specs.declared.Leave.{Leave}
 use Rattle.line.specs.declared.Refusal.{Refusal}
 use Rattle.line.specs.declared.Refusal.the-variants.{Full}
 use Rattle.line.specs.declared.Reading.{Reading}
@@ -15,7 +17,8 @@ use Rattle.line.specs.Answer.{refused, done}
 use Rattle.line.specs.Message.{capacity}
 use Rattle.line.specs.Node.{Node, Line, number, Present, inWrittenOrder, Written}
 use Rattle.line.specs.Links.{Joined}
-use Rattle.line.specs.Nidec.{Nidec, nidec}
+use Rattle.line.specs.Nidec.{Nidec}
+use Rattle.line.specs.Leave.{Why, LeaveIs, leaveOf}
 use Rattle.line.specs.Act.{Send, Effect, act}
 use Rattle.line.specs.Step.{step}
 use Rattle.line.specs.Run.{Run, run, IsRun}
@@ -25,11 +28,11 @@ use Rattle.line.specs.Alike.{Alike}
 use Rattle.line.specs.InLine.{InLine, inLine}
 use Rattle.line.specs.Report.{Fires}
 use Rattle.line.specs.Situations.{Situation, Holds, situations}
-use Rattle.line.specs.Examples.{examples, LineExample, Shows, lineExamples}
+use Rattle.line.specs.Examples.{examples, LineExample, Shows, lineExamples, LeaveExample, ShowsLeave, leaveExamples}
 
 -- The tests say what the statements say.
-abbrev pub NidecTested : Type 0
-NidecTested = (line : Line) (p : Node) → (nidec line p ≡ true) ↔ Nidec line p
+abbrev pub LeaveTested : Type 0
+LeaveTested = (line : Line) (s : Node) (l : Leave) → (leaveOf line s ≡ l) ↔ LeaveIs line s l
 
 abbrev pub AcceptedTested : Type 0
 AcceptedTested = (line : Line) → (accepted line ≡ true) ↔ Accepted line
@@ -86,7 +89,8 @@ ReportAgrees =
     → ((after : Line) → (step line x ≡ done after) ↔ (Fires line x after × WithinCapacity after))
     × ((step line x ≡ refused Full) ↔ ((after : Line) × Fires line x after × ¬ WithinCapacity after))
 
--- 5. The eleven starred situations, as one set; the further examples; and lines that are in line or not, with the stations that may leave.
+-- 5. The eleven starred situations, as one set; the further examples; and lines that are in line or not, with the stations that may leave;
+-- and lines with what holds each of their stations.
 abbrev pub SituationsHold : Type 0
 SituationsHold = (x : Situation) → Member x situations → Holds x
 
@@ -96,6 +100,9 @@ ExamplesHold = (x : Situation) → Member x examples → Holds x
 abbrev pub LineExamplesShow : Type 0
 LineExamplesShow = (x : LineExample) → Member x lineExamples → Shows x
 
+abbrev pub LeaveExamplesShow : Type 0
+LeaveExamplesShow = (x : LeaveExample) → Member x leaveExamples → ShowsLeave x
+
 -- 6. "No step sends to its own station, and no step sends two messages to one station."
 abbrev pub Apart : List Send → Type 0
 Apart [] = Unit {0}
@@ -103,7 +110,7 @@ Apart (m ∷ l) = ((k : Send) → Member k l → m .to ≢ k .to) × Apart l
 
 abbrev pub SendsApart : Type 0
 SendsApart =
-    (nidecHolds : Bool) (s : Node) (a : Action) (e : Effect) → Sided s → act nidecHolds s a ≡ done e
+    (l : Leave) (s : Node) (a : Action) (e : Effect) → Sided s → act l s a ≡ done e
     → ((m : Send) → Member m (e .sends) → m .to ≢ number s) × Apart (e .sends)
 
 -- 7. What a run is, and nothing else: the first readings, as many as it counts, are done one after another and lead from the line read to
@@ -114,3 +121,10 @@ RunPinned = (line : Line) (l : List Reading) (r : Run) → (run line l ≡ r) �
 -- 8. A step is refused with a number exactly when there is that number's cause.
 abbrev pub RefusedExactly : Type 0
 RefusedExactly = (line : Line) (x : declared.Step) (r : Refusal) → Accepted line → (step line x ≡ refused r) ↔ Cause line x r
+
+-- 9. "exit, leaving, NIDEC false": there is a reason exactly where NIDEC does not hold, and only one.
+abbrev pub ReasonExactly : Type 0
+ReasonExactly = (line : Line) (s : Node) → ((why : Reason) × Why line s why) ↔ (¬ Nidec line s)
+
+abbrev pub ReasonOnce : Type 0
+ReasonOnce = (line : Line) (s : Node) (why other : Reason) → Why line s why → Why line s other → why ≡ other

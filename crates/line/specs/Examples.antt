@@ -1,5 +1,5 @@
 -- Further worked examples, held to the same claim as the situations: the mirror images, the refusals, and bags at their bound. Then
--- lines, with whether they are in line and for which stations NIDEC holds.
+-- lines, with whether they are in line and for which stations NIDEC holds; and lines with what holds each of their stations.
 use Prim.Native.Nat.{ℕ}
 use mathlib.Core.Path.{_≡_}
 use mathlib.Core.Logic.{_↔_}
@@ -10,9 +10,13 @@ use lib.ListN.{replicate}
 use Rattle.line.specs.declared.Neighbour.the-variants.{None, Station}
 use Rattle.line.specs.declared.Message.{Message}
 use Rattle.line.specs.declared.Side.the-variants.{Left, Right}
+use Rattle.line.specs.declared.Reason.the-variants.{OwnBag, HeldBy}
+use Rattle.line.specs.declared.Leave.{Leave}
+use Rattle.line.specs.declared.Leave.the-variants.{May, MayNot}
 use Rattle.line.specs.Message.{introduction, removal}
 use Rattle.line.specs.Node.{Node, Line, number}
 use Rattle.line.specs.Nidec.{Nidec}
+use Rattle.line.specs.Leave.{LeaveIs}
 use Rattle.line.specs.Accepted.{accepted}
 use Rattle.line.specs.InLine.{InLine}
 use Rattle.line.specs.Situations.{Situation, doing, refusing, staying, leaving, single, timeoutAt, deliverTo, exitOf}
@@ -130,3 +134,44 @@ lineExamples =
       inLine = false;
       free = [];
     } ∷ []
+
+-- A line in any stored order, and what the leave question says of each of its stations in that order.
+pub record LeaveExample : Type 0 where
+  pub line : Line
+  pub leaves : List Leave
+
+abbrev pub Answers : Line → Line → List Leave → Type 0
+Answers line [] [] = Unit {0}
+Answers line [] (a ∷ l) = ⊥
+Answers line (s ∷ rest) [] = ⊥
+Answers line (s ∷ rest) (a ∷ l) = LeaveIs line s a × Answers line rest l
+
+pub record ShowsLeave (x : LeaveExample) : Type 0 where
+  pub accepts : accepted (x .line) ≡ true
+  pub leaves : Answers (x .line) (x .line) (x .leaves)
+
+unfoldable pub leaveExamples : List LeaveExample
+leaveExamples =
+    -- 5 is named by 3 and by 9: the smaller of the two holds it, though 9 is stored first
+    record {
+      line = staying 9 (Station 5) None [] ∷ leaving 5 None None [] ∷ staying 3 None (Station 5) [] ∷ [];
+      leaves = May ∷ MayNot (HeldBy 3) ∷ May ∷ [];
+    } ∷
+    -- "The bag is looked at first": 5 is held by 3, but a message waits for it
+    record {
+      line = staying 3 None (Station 5) [] ∷ leaving 5 None None (removal Left ∷ []) ∷ [];
+      leaves = May ∷ MayNot OwnBag ∷ [];
+    } ∷
+    -- a station that introduces itself is held by its own bag
+    record { line = leaving 5 None None (introduction 5 ∷ []) ∷ []; leaves = MayNot OwnBag ∷ [] } ∷
+    -- a right neighbour, a left neighbour, and an introduction behind another message hold
+    record {
+      line = staying 3 None (Station 5) [] ∷ leaving 5 None None [] ∷ staying 9 (Station 3) None (introduction 3 ∷ introduction 5 ∷ []) ∷ [];
+      leaves = MayNot (HeldBy 9) ∷ MayNot (HeldBy 3) ∷ MayNot OwnBag ∷ [];
+    } ∷
+    record {
+      line = single 3 [] ∷ leaving 5 None None [] ∷ single 9 (introduction 3 ∷ introduction 5 ∷ []) ∷ [];
+      leaves = MayNot (HeldBy 9) ∷ MayNot (HeldBy 9) ∷ MayNot OwnBag ∷ [];
+    } ∷
+    -- nobody holds a sole station
+    record { line = single 5 [] ∷ []; leaves = May ∷ [] } ∷ []

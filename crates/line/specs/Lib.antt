@@ -5,6 +5,7 @@ pub mod Marks
 pub mod Node
 pub mod Links
 pub mod Nidec
+pub mod Leave
 pub mod Act
 pub mod Step
 pub mod Run

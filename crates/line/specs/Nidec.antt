@@ -2,14 +2,13 @@
 use Prim.Native.Nat.{ℕ}
 use mathlib.Core.Path.{_≡_}
 use mathlib.Core.Logic.{_≢_}
-use mathlib.Core.Bool.{Bool, true, false, not, _&&_, _||_}
+use mathlib.Core.Bool.{Bool, true, false, _||_}
 use mathlib.Core.List.{List, [], _∷_}
 use mathlib.Core.List.{List·Memᴰ as Member}
 use lib.Dec.{eqb}
 use Rattle.line.specs.declared.Neighbour.{Neighbour}
 use Rattle.line.specs.declared.Neighbour.the-variants.{None, Station}
 use Rattle.line.specs.declared.Message.{Message}
-use Rattle.lists.specs.Lists.{all}
 use Rattle.line.specs.Message.{introduction, holds}
 use Rattle.line.specs.Node.{Node, Line, number}
 use Rattle.line.specs.Links.{Linked}
@@ -20,7 +19,7 @@ pub record Nidec (line : Line) (p : Node) : Type 0 where
   pub empty : p .bag ≡ []
   pub unnamed : (s : Node) → Member s line → number s ≢ number p → ¬ Linked s (number p)
 
--- The tests, tied to the statements by `NidecTested` of Claims.antt.
+-- The tests that `leaveOf` of Leave.antt asks.
 unfoldable pub isNeighbour : ℕ → Neighbour → Bool
 isNeighbour n None = false
 isNeighbour n (Station m) = eqb n m
@@ -31,6 +30,3 @@ names n s = isNeighbour n (s .station .left) || (isNeighbour n (s .station .righ
 unfoldable pub isEmpty : List Message → Bool
 isEmpty [] = true
 isEmpty (m ∷ b) = false
-
-unfoldable pub nidec : Line → Node → Bool
-nidec line p = isEmpty (p .bag) && all (λ (s : Node). eqb (number s) (number p) || not (names (number p) s)) line

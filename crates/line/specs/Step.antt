@@ -12,7 +12,7 @@ use Rattle.lists.specs.Lists.{all}
 use Rattle.line.specs.Answer.{Answer, refused, done, _>>=_, require}
 use Rattle.line.specs.Message.{put, capacity}
 use Rattle.line.specs.Node.{Node, Line, number}
-use Rattle.line.specs.Nidec.{nidec}
+use Rattle.line.specs.Leave.{leaveOf}
 use Rattle.line.specs.Act.{Send, Effect, act}
 
 -- the station n of the line
@@ -52,5 +52,5 @@ commit line n e = require (all (hasRoom line) (e .sends)) Full (done (sendAll (e
 unfoldable pub step : Line → Step → Answer Line
 step line x = do
   s ← find (x .station) line
-  e ← act (nidec line s) s (x .action)
+  e ← act (leaveOf line s) s (x .action)
   commit line (number s) e

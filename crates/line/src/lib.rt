@@ -1,7 +1,7 @@
 // The types of the station line (document 01, "What the engine holds" and "The step list").
 
 ghost use mathlib.Core.Path.{_≡_};
-ghost use Rattle.line.specs.Answer.{refusalNumber, endingNumber};
+ghost use Rattle.line.specs.Answer.{reasonNumber, reasonHolder, carriedNumber, carriedHolder, refusalNumber, refusalReason, endingNumber, answerNumber, answerReason};
 ghost use Rattle.line.specs.Marks.{flags, reserved, marksFrom};
 ghost use Rattle.line.specs.Node as node;
 
@@ -54,13 +54,33 @@ pub struct Step {
     pub action: Action,
 }
 
-// Why a step is refused (document 01, "The numbers a crew may see", 10 to 15).
+// What still holds a station (document 02, T-02): "own bag not empty", or "the smallest station that still has the asked one as a neighbour
+// or an introduction".
+pub enum Reason {
+    OwnBag,
+    HeldBy(u32),
+}
+
+// The reason that an answer carries, where it carries one.
+pub enum Carried {
+    Nothing,
+    Because(Reason),
+}
+
+// Whether a station may leave.
+pub enum Leave {
+    May,
+    MayNot(Reason),
+}
+
+// Why a step is refused (document 01, "The numbers a crew may see", 10 to 15). "The run's refusal 14 carries the same reason" (document 02,
+// T-02).
 pub enum Refusal {
     Malformed,
     Absent,
     NotInBag,
     Staying,
-    Held,
+    Held(Reason),
     Full,
 }
 
@@ -76,6 +96,56 @@ pub enum Ending {
     Stopped(Refusal),
 }
 
+// What a run answers: the number of what is refused before the first step, or how it ended.
+pub enum Answered {
+    Refused(u32),
+    Ended(Ending),
+}
+
+impl Reason {
+    // The value of the C interface: 2 for the own bag, 3 for a holder.
+    pub fn number(self) -> u32
+        ensures { λ r. ⌜ r ≡ reasonNumber self ⌝ }
+    {
+        match self {
+            Reason::OwnBag => 2,
+            Reason::HeldBy(_) => 3,
+        }
+    }
+
+    // The station that holds; 0 where none is named.
+    pub fn holder(self) -> u32
+        ensures { λ r. ⌜ r ≡ reasonHolder self ⌝ }
+    {
+        match self {
+            Reason::OwnBag => 0,
+            Reason::HeldBy(q) => q,
+        }
+    }
+}
+
+impl Carried {
+    // The value of the reason; 0 where there is none.
+    pub fn number(self) -> u32
+        ensures { λ r. ⌜ r ≡ carriedNumber self ⌝ }
+    {
+        match self {
+            Carried::Nothing => 0,
+            Carried::Because(why) => why.number(),
+        }
+    }
+
+    // The station that the reason names; 0 where none is named.
+    pub fn holder(self) -> u32
+        ensures { λ r. ⌜ r ≡ carriedHolder self ⌝ }
+    {
+        match self {
+            Carried::Nothing => 0,
+            Carried::Because(why) => why.holder(),
+        }
+    }
+}
+
 impl Refusal {
     // The number a crew sees.
     pub fn number(self) -> u32
@@ -86,8 +156,22 @@ impl Refusal {
             Refusal::Absent => 11,
             Refusal::NotInBag => 12,
             Refusal::Staying => 13,
-            Refusal::Held => 14,
+            Refusal::Held(_) => 14,
             Refusal::Full => 15,
+        }
+    }
+
+    // "The run's refusal 14 carries the same reason"; no other does.
+    fn reason(self) -> Carried
+        ensures { λ r. ⌜ r ≡ refusalReason self ⌝ }
+    {
+        match self {
+            Refusal::Malformed => Carried::Nothing,
+            Refusal::Absent => Carried::Nothing,
+            Refusal::NotInBag => Carried::Nothing,
+            Refusal::Staying => Carried::Nothing,
+            Refusal::Held(why) => Carried::Because(why),
+            Refusal::Full => Carried::Nothing,
         }
     }
 }
@@ -100,6 +184,31 @@ impl Ending {
         match self {
             Ending::Complete => 0,
             Ending::Stopped(refusal) => refusal.number(),
+        }
+    }
+}
+
+impl Answered {
+    // The number a crew sees.
+    pub fn number(self) -> u32
+        ensures { λ r. ⌜ r ≡ answerNumber self ⌝ }
+    {
+        match self {
+            Answered::Refused(number) => number,
+            Answered::Ended(ending) => ending.number(),
+        }
+    }
+
+    // The reason of a run that stopped at 14.
+    pub fn reason(self) -> Carried
+        ensures { λ r. ⌜ r ≡ answerReason self ⌝ }
+    {
+        match self {
+            Answered::Refused(_) => Carried::Nothing,
+            Answered::Ended(ending) => match ending {
+                Ending::Complete => Carried::Nothing,
+                Ending::Stopped(refusal) => refusal.reason(),
+            },
         }
     }
 }

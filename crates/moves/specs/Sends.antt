@@ -9,6 +9,7 @@ use Rattle.lists.specs.Places.{firstAt}
 use Rattle.line.specs.declared.Action.{Action}
 use Rattle.line.specs.declared.Message.{Message}
 use Rattle.line.specs.declared.Station as declared
+use Rattle.line.specs.declared.Leave.{Leave}
 use Rattle.line.specs.declared.Refusal.the-variants.{Full}
 use Rattle.line.specs.Message.{capacity}
 use Rattle.bag.specs.declared.Bag.{Bag}
@@ -44,9 +45,10 @@ verdictIn Done false = Refused Full
 abbrev pub verdictOf : Decision → ℕ → ℕ → Verdict
 verdictOf d a b = verdictIn (d .verdict) (roomFor (d .sendings .first) a && roomFor (d .sendings .second) b)
 
--- r is the step of station s, at place i of the index, worked out; found says whether its bag holds the message to deliver
-pub record Plans (index counts : List ℕ) (i : ℕ) (nidecHolds found : Bool) (s : declared.Station) (a : Action) (r : Plan) : Type 0 where
-  pub decides : (b : List Message) → found ≡ isFound a b → Decides nidecHolds s b a (r .decision)
+-- r is the step of station s, at place i of the index, worked out; l says whether it may leave, and found whether its bag
+-- holds the message to deliver
+pub record Plans (index counts : List ℕ) (i : ℕ) (l : Leave) (found : Bool) (s : declared.Station) (a : Action) (r : Plan) : Type 0 where
+  pub decides : (b : List Message) → found ≡ isFound a b → Decides l s b a (r .decision)
   pub first : r .first ≡ slotIn (getD index (receiverOf (numbersIn index) (r .decision .sendings .first) i) 0)
   pub second : r .second ≡ slotIn (getD index (receiverOf (numbersIn index) (r .decision .sendings .second) i) 0)
   pub verdict : r .verdict ≡ verdictOf (r .decision) (getD counts (r .first) 0) (getD counts (r .second) 0)

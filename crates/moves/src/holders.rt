@@ -1,16 +1,22 @@
 // Who holds a station that would exit: another station that has it as a neighbour or as an introduction in its bag (document 01, "What a step
-// does at station p", NIDEC).
+// does at station p", NIDEC; document 02, T-02).
 use bag::Bag;
 use line::Action;
 use line::Content;
+use line::Leave;
 use line::Message;
 use line::Neighbour;
+use line::Reason;
 use line::Station;
 ghost use mathlib.Core.Path.{_≡_};
 ghost use mathlib.Core.Bool.{cond};
+ghost use Prim.Native.Nat.{_<_, _≤_};
+ghost use lib.ListN.{length, getD};
 ghost use Rattle.line.specs.Nidec as spec;
+ghost use Rattle.line.specs.Leave.{isHolder};
 ghost use Rattle.bag.specs.Held.{ordered};
-ghost use Rattle.moves.specs.Holders.{isExit, isHolder, mayHold};
+ghost use Rattle.index.specs.Index.{numberIn, numbersIn};
+ghost use Rattle.moves.specs.Holders.{isExit, mayHold, leaveFrom};
 
 pub fn is_neighbour(p: u32, n: Neighbour) -> bool
     ensures { λ r. ⌜ r ≡ spec.isNeighbour p n ⌝ }
@@ -60,4 +66,19 @@ pub fn asked_of(action: Action, n: usize) -> usize
         Action::Deliver(_) => 0,
         Action::Exit => n,
     }
+}
+
+// Whether a station with so many messages may leave, where the first who holds it has place j of the index. "The bag is looked at first"
+// (document 02, T-02).
+pub fn leave_from(index: &[u64], count: usize, j: usize) -> Leave
+    requires { ⌜ (j < length (now index) → numberIn (getD (now index) j 0) ≤ 999999) ⌝ }
+    ensures { λ r. ⌜ r ≡ leaveFrom (numbersIn (now (index .entry))) count j ⌝ }
+{
+    if count != 0 {
+        return Leave::MayNot(Reason::OwnBag);
+    }
+    if j < index.len() {
+        return Leave::MayNot(Reason::HeldBy((index[j] / 64) as u32));
+    }
+    Leave::May
 }

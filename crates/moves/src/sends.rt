@@ -5,6 +5,7 @@ use bag::Bag;
 use bag::Taken;
 use index::lookup_near;
 use line::Action;
+use line::Leave;
 use line::Message;
 use line::Refusal;
 use line::Station;
@@ -67,20 +68,20 @@ fn verdict_of(decision: Decision, first: usize, second: usize) -> Verdict
     }
 }
 
-// The step of the station at place i of the index. found says whether its bag holds the message to deliver.
+// The step of the station at place i of the index. leave says whether it may leave, and found whether its bag holds the message to deliver.
 pub fn plan(
     index: &[u64],
     counts: &[usize; 64],
     i: usize,
-    nidec_holds: bool,
+    leave: Leave,
     found: bool,
     station: Station,
     action: Action,
 ) -> Plan
     requires { ⌜ (i < length (now index)) × Rising (numbersIn (now index)) ⌝ }
-    ensures { λ r. ⌜ Plans (now (index .entry)) (now (counts .entry)) i «nidec_holds» found station action r ⌝ }
+    ensures { λ r. ⌜ Plans (now (index .entry)) (now (counts .entry)) i leave found station action r ⌝ }
 {
-    let decision = decide(nidec_holds, found, station, action);
+    let decision = decide(leave, found, station, action);
     let sendings = decision.sendings;
     let one = sendings.first;
     let two = sendings.second;

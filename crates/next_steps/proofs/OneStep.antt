@@ -14,7 +14,7 @@ use Rattle.line.specs.declared.Refusal.{Refusal}
 use Rattle.line.specs.declared.Refusal.the-variants.{Malformed, Absent, NotInBag, Staying, Held, Full}
 use Rattle.line.specs.declared.Reading.{Reading}
 use Rattle.line.specs.declared.Reading.the-variants.{Step, Refused}
-use Rattle.line.specs.Answer.{Answer, refused, done, isDone, refusalNumber, endingNumber}
+use Rattle.line.specs.Answer.{Answer, refused, done, isDone, refusalNumber, endingNumber, answerNumber}
 use Rattle.line.specs.Node.{Line}
 use Rattle.line.specs.Run.{try, Run, run}
 use Rattle.line.proofs.Runs.{next, run-next}
@@ -32,7 +32,7 @@ no-refusal Malformed e = omega arith
 no-refusal Absent e = omega arith
 no-refusal NotInBag e = omega arith
 no-refusal Staying e = omega arith
-no-refusal Held e = omega arith
+no-refusal (Held why) e = omega arith
 no-refusal Full e = omega arith
 
 module _ (line : Line) where
@@ -72,10 +72,10 @@ module _ (t x room : List ℕ) (clean : faultOf t ≡ 0) (one : length x ≡ 12)
   unfolding stepsOf range
   one-reading = ap (λ (n : ℕ). map (stepAt x) (range 0 (n / 12))) one
 
-  answer-is : (outcome t x room) .answer ≡ numberOf (lineOf t) (stepAt x 0)
-  answer-is = ap (λ (o : Outcome). o .answer) (accepted-outcome t x room begins) ∙ ap (λ (l : List Reading). endingNumber ((run (lineOf t) l) .ending)) one-reading
+  answer-is : answerNumber ((outcome t x room) .answer) ≡ numberOf (lineOf t) (stepAt x 0)
+  answer-is = ap (λ (o : Outcome). answerNumber (o .answer)) (accepted-outcome t x room begins) ∙ ap (λ (l : List Reading). endingNumber ((run (lineOf t) l) .ending)) one-reading
 
-  pub one-accepted : ((outcome t x room) .answer ≡ 0) ↔ ReadDone (lineOf t) (stepAt x 0)
+  pub one-accepted : (answerNumber ((outcome t x room) .answer) ≡ 0) ↔ ReadDone (lineOf t) (stepAt x 0)
   one-accepted =
       let w = number-done (lineOf t) (stepAt x 0) in
       (λ h. w .0 (sym answer-is ∙ h), λ h. answer-is ∙ w .1 h)

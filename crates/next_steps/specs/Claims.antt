@@ -10,6 +10,7 @@ use Rattle.lists.specs.Numbers.{Pairwise}
 use Rattle.line.specs.declared.Action.{Action}
 use Rattle.line.specs.declared.Action.the-variants.{Timeout, Deliver, Exit}
 use Rattle.line.specs.declared.Step.{Step}
+use Rattle.line.specs.Answer.{answerNumber}
 use Rattle.line.specs.Message.{precedes}
 use Rattle.line.specs.Alike.{Alike}
 use Rattle.octets.specs.Bytes.{AreBytes}
@@ -30,7 +31,7 @@ pub record Stands (x : List ℕ) (f : Filling) : Type 0 where
 abbrev pub ListedExactly : Type 0
 ListedExactly =
     (t x lent room : List ℕ) → (allowedIn t lent) .answer ≡ 0 → AreBytes x → length x ≡ 12 → length t ≤ length room
-    → Stands x (allowedIn t lent) ↔ ((outcome t x room) .answer ≡ 0)
+    → Stands x (allowedIn t lent) ↔ (answerNumber ((outcome t x room) .answer) ≡ 0)
 
 -- 2. "by rising station number, and within a station the timeout, then deliveries by kind and number, then the exit": strictly, so that
 -- each step stands once.

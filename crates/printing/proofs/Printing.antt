@@ -5,6 +5,7 @@ use mathlib.Core.Bool.{Bool, true, false}
 use mathlib.Core.List.{List, _++_}
 use lib.ListN.{length, take, drop}
 use lib.Seq.{length-take-le}
+use Rattle.line.specs.declared.Answered.the-variants.{Refused}
 use Rattle.table.specs.Blocks.{nodes}
 use Rattle.text.specs.Listing.{printsStations, listingText}
 use Rattle.finishing.specs.declared.Ran.{Ran}
@@ -30,7 +31,7 @@ module _ (table steps : File) (fit : Bool) (e : fit ≡ filesHold table steps) (
   lists-run h w = rw (sym e, h) w
 
   pub lists-sixteen : fit ≡ false
-      → (n ≡ length (listingText 16 0 0 (nodes (table .bytes)))) × (after ≡ listingText 16 0 0 (nodes (table .bytes)) ++ drop n before)
+      → (n ≡ length (listingText (Refused 16) 0 0 (nodes (table .bytes)))) × (after ≡ listingText (Refused 16) 0 0 (nodes (table .bytes)) ++ drop n before)
       → Prints (programText table steps) before n after
   unfolding programOutcome printed listingText printsStations
   lists-sixteen h w = rw (sym e, h) (record { filled = w .0; bytes = w .1 })

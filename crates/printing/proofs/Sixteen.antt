@@ -9,6 +9,7 @@ use lib.ListN.{length, take, length-take, length-replicate}
 use lib.Seq.{take-all}
 use borrow.Author.Tests.{leb-true, leb-false, le-leb, lt-leb}
 use Rattle.lists.proofs.Lists.{and-both, fails}
+use Rattle.line.specs.Answer.{answerNumber}
 use Rattle.words.specs.Words.{digits, decimal, spaced, parted}
 use Rattle.text.specs.Listing.{lineText, headText, printsStations, listingText}
 use Rattle.finishing.specs.Ended.{Outcome}
@@ -72,17 +73,17 @@ module _ (table steps : File) where
   roomy : filesHold table steps ≡ true → length (table .bytes) ≤ length programRoom
   roomy h = omega (arith, within tableLimit table (and-both (fileHolds tableLimit table) (fileHolds stepsLimit steps) h .0), length-replicate {A = ℕ} tableLimit 0)
 
-  ran-answer : filesHold table steps ≡ true → OfRun ((programOutcome table steps) .answer)
+  ran-answer : filesHold table steps ≡ true → OfRun (answerNumber ((programOutcome table steps) .answer))
   ran-answer h = rw (ran h) (answer-of-run (table .bytes) (steps .bytes) programRoom (roomy h))
 
-  refused-answer : filesHold table steps ≡ false → (programOutcome table steps) .answer ≡ 16
-  refused-answer h = ap (λ (o : Outcome). o .answer) (refused h)
+  refused-answer : filesHold table steps ≡ false → answerNumber ((programOutcome table steps) .answer) ≡ 16
+  refused-answer h = ap (λ (o : Outcome). answerNumber (o .answer)) (refused h)
 
   -- 16 tells whether both files hold
-  sixteen-refused : (programOutcome table steps) .answer ≡ 16 → filesHold table steps ≡ false
+  sixteen-refused : answerNumber ((programOutcome table steps) .answer) ≡ 16 → filesHold table steps ≡ false
   sixteen-refused e = fails (filesHold table steps) (λ h. ran-answer h .1 e)
 
-  other-ran : (programOutcome table steps) .answer ≢ 16 → filesHold table steps ≡ true
+  other-ran : answerNumber ((programOutcome table steps) .answer) ≢ 16 → filesHold table steps ≡ true
   other-ran n = go (filesHold table steps) refl
     where
       go : (b : Bool) → filesHold table steps ≡ b → b ≡ true

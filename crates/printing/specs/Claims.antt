@@ -6,6 +6,7 @@ use mathlib.Core.Bool.{false}
 use mathlib.Core.Logic.{_↔_, _⊎_, _≢_}
 use mathlib.Core.List.{List}
 use lib.ListN.{length, take}
+use Rattle.line.specs.Answer.{answerNumber}
 use Rattle.words.specs.Words.{ascii}
 use Rattle.engine.specs.Ran.{outcome}
 use Rattle.printing.specs.Printed.{printed}
@@ -17,20 +18,20 @@ Unfit limit file = (file .isRead ≡ false) ⊎ (limit < length (file .bytes))
 
 -- 1. 16 is told for an unfit file and for nothing else.
 abbrev pub SixteenMeans : Type 0
-SixteenMeans = (table steps : File) → ((programOutcome table steps) .answer ≡ 16) ↔ (Unfit tableLimit table ⊎ Unfit stepsLimit steps)
+SixteenMeans = (table steps : File) → (answerNumber ((programOutcome table steps) .answer) ≡ 16) ↔ (Unfit tableLimit table ⊎ Unfit stepsLimit steps)
 
 -- 2. "nothing written but one line": its bytes.
 abbrev pub SixteenPrints : Type 0
-SixteenPrints = (table steps : File) → (programOutcome table steps) .answer ≡ 16 → programText table steps ≡ ascii "answer 16 done 0 stations 0\n"
+SixteenPrints = (table steps : File) → answerNumber ((programOutcome table steps) .answer) ≡ 16 → programText table steps ≡ ascii "answer 16 done 0 stations 0\n"
 
 -- 3. The program never tells 9: its room is as long as any table that is let in.
 abbrev pub NeverNine : Type 0
-NeverNine = (table steps : File) → (programOutcome table steps) .answer ≢ 9
+NeverNine = (table steps : File) → answerNumber ((programOutcome table steps) .answer) ≢ 9
 
 -- 4. Its room plays no part: at every other number it prints the listing of the run in whatever room the table read is not too long for.
 abbrev pub AnyRoomServes : Type 0
 AnyRoomServes =
-    (table steps : File) (room : List ℕ) → (programOutcome table steps) .answer ≢ 16 → length (table .bytes) ≤ length room
+    (table steps : File) (room : List ℕ) → answerNumber ((programOutcome table steps) .answer) ≢ 16 → length (table .bytes) ≤ length room
     → programText table steps ≡ printed (outcome (table .bytes) (steps .bytes) room)
 
 -- the first n bytes of a file

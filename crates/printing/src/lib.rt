@@ -5,6 +5,7 @@ mod files;
 use engine::run;
 use files::read_file;
 use libc::STDOUT_FILENO;
+use line::Answered;
 use text::write_listing;
 ghost use mathlib.Core.Path.{_≡_};
 ghost use Prim.Native.Nat.{_≤_};
@@ -35,7 +36,8 @@ fn list_run(table: &[u8], steps: &[u8], out: &mut [u8]) -> usize
     let mut room = [0u8; TABLE_LIMIT];
     let ran = run(table, steps, &mut room);
     let end = 512 * (ran.stations as usize);
-    write_listing(out, ran.answer, ran.done, ran.stations, &room[..end])
+    let answer = ran.answer;
+    write_listing(out, answer, ran.done, ran.stations, &room[..end])
 }
 
 // All that the program prints of its two files, from the start of `out`: of each, whether it could be read and the bytes that were read,
@@ -53,7 +55,7 @@ pub fn list_files(
     if files_hold(table_read, table, steps_read, steps) {
         return list_run(table, steps, out);
     }
-    write_listing(out, 16, 0, 0, table)
+    write_listing(out, Answered::Refused(16), 0, 0, table)
 }
 
 // Reads the two files, each up to one byte over its limit, and prints their listing. A program has no exit status, so a listing that cannot

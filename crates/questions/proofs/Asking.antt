@@ -15,17 +15,19 @@ use Rattle.questions.specs.Told.{yesNo, asked, isInLine}
 use Rattle.questions.proofs.Meanings.{answered}
 
 module _ {t : List ℕ} {r : Inspected} (found : Inspects t r) where
-  pub asked-refused : (x : Told) → (r .fault ≡ 0 → ⊥) → Refused (r .fault) ≡ asked t x
-  asked-refused x h = let e = found .fault-is in rw (← e, ne-eqb (r .fault) 0 h)
+  -- of any question, x what an accepted table answers
+  module _ {A : Type 0} (refuse : ℕ → A) (x : A) where
+    pub asked-refused : (r .fault ≡ 0 → ⊥) → refuse (r .fault) ≡ asked t refuse x
+    asked-refused h = let e = found .fault-is in rw (← e, ne-eqb (r .fault) 0 h)
 
-  pub asked-accepted : (x : Told) → r .fault ≡ 0 → x ≡ asked t x
-  asked-accepted x h = sym (answered t x (inspected-clean found h))
+    pub asked-accepted : r .fault ≡ 0 → x ≡ asked t refuse x
+    asked-accepted h = sym (answered t refuse x (inspected-clean found h))
 
   -- whether the table is in line
   pub line-refused : (r .fault ≡ 0 → ⊥) → Refused (r .fault) ≡ isInLine t
   unfolding isInLine
-  line-refused h = asked-refused (yesNo (inLine (lineOf t))) h
+  line-refused h = asked-refused Refused (yesNo (inLine (lineOf t))) h
 
   pub line-accepted : r .fault ≡ 0 → {x : Bool} → x ≡ inLine (lineOf t) → {y : Told} → y ≡ yesNo x → y ≡ isInLine t
   unfolding isInLine
-  line-accepted h e f = f ∙ ap yesNo e ∙ asked-accepted (yesNo (inLine (lineOf t))) h
+  line-accepted h e f = f ∙ ap yesNo e ∙ asked-accepted Refused (yesNo (inLine (lineOf t))) h

@@ -22,8 +22,7 @@ use Rattle.line.proofs.WrittenOrder.{written-order-keeps}
 use Rattle.table.specs.Blocks.{nodes, lineOf}
 use Rattle.table.specs.Fault.{faultOf}
 use Rattle.table.proofs.Accepting.{table-accepted}
-use Rattle.questions.specs.declared.Told.{Told}
-use Rattle.questions.specs.declared.Told.the-variants.{Yes}
+use Rattle.questions.specs.declared.Told.the-variants.{Refused, Yes}
 use Rattle.questions.specs.Told.{yesNo, asked, isInLine}
 use Rattle.questions.specs.Claims.{InLineMeans}
 
@@ -83,11 +82,11 @@ unfolding lineOf
 reading-alike t h = written-order-keeps (nodes t) (table-accepted t h .0) .2
 
 -- a question of an accepted table gets its answer
-pub answered : (t : List ℕ) (x : Told) → faultOf t ≡ 0 → asked t x ≡ x
-answered t x h = rw (eq-eqb (faultOf t) 0 h) refl
+pub answered : (t : List ℕ) {A : Type 0} (refuse : ℕ → A) (x : A) → faultOf t ≡ 0 → asked t refuse x ≡ x
+answered t refuse x h = rw (eq-eqb (faultOf t) 0 h) refl
 
 -- which is yes exactly when the test holds
-pub yes-means : (b : Bool) → (yesNo b ≡ Yes) ↔ (b ≡ true)
+yes-means : (b : Bool) → (yesNo b ≡ Yes) ↔ (b ≡ true)
 yes-means true = (λ e. refl, λ e. refl)
 yes-means false = (λ e. absurd (let z : _≡_ {A = ℕ} 0 1 = cc in omega arith), λ e. clash e refl)
 
@@ -98,7 +97,7 @@ in-line-means t h =
     let a = reading-alike t h in
     let yes = yes-means (inLine (lineOf t)) in
     let tested = in-line-tested (lineOf t) (table-accepted t h .2) in
-    rw (answered t (yesNo (inLine (lineOf t))) h) (
+    rw (answered t Refused (yesNo (inLine (lineOf t))) h) (
       λ e. in-line-alike (lineOf t) (nodes t) (alike-back a) (tested .0 (yes .0 e)),
       λ l. yes .1 (tested .1 (in-line-alike (nodes t) (lineOf t) a l)),
     )

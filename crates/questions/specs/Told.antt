@@ -24,10 +24,10 @@ abbrev pub yesNo : Bool → Told
 yesNo true = Yes
 yesNo false = No
 
--- "A question checks the table first (1 to 7)"
-abbrev pub asked : List ℕ → Told → Told
-asked table t = cond (eqb (faultOf table) 0) t (Refused (faultOf table))
+-- "A question checks the table first (1 to 7)": what an accepted table answers, and how a number is refused
+abbrev pub asked : {A : Type 0} → List ℕ → (ℕ → A) → A → A
+asked table refuse a = cond (eqb (faultOf table) 0) a (refuse (faultOf table))
 
 -- "ask whether the table is in line"
 unfoldable pub isInLine : List ℕ → Told
-isInLine table = asked table (yesNo (inLine (lineOf table)))
+isInLine table = asked table Refused (yesNo (inLine (lineOf table)))

@@ -16,9 +16,12 @@ use Rattle.line.specs.declared.Side.{Side}
 use Rattle.line.specs.declared.Side.the-variants.{Left, Right}
 use Rattle.line.specs.declared.Action.{Action}
 use Rattle.line.specs.declared.Action.the-variants.{Timeout, Deliver, Exit}
+use Rattle.line.specs.declared.Reason.{Reason}
+use Rattle.line.specs.declared.Leave.{Leave}
+use Rattle.line.specs.declared.Leave.the-variants.{May, MayNot}
 use Rattle.line.specs.declared.Refusal.{Refusal}
 use Rattle.line.specs.declared.Refusal.the-variants.{NotInBag, Staying, Held}
-use Rattle.line.specs.Answer.{refused, done, require}
+use Rattle.line.specs.Answer.{refused, done, require, unlessHeld}
 use Rattle.line.specs.Message.{introduction, removal, holds, remove}
 use Rattle.line.specs.Node.{opposite, beyond, sideOf, neighbour, withNeighbour}
 use Rattle.line.specs.Act.{Send, sendTo, notice, timeout, Reaction, unchanged, meet, introduced, dropNeighbour, obeys, removed, received, introduceBoth, kept, act}
@@ -165,41 +168,36 @@ module _ (a b : Neighbour) where
   both-introduced l r m k e f g h = rw (e, f, g, h)
 
 -- Refusals: d is what the call gave.
-module _ (nidecHolds : Bool) (s : declared.Station) (b : List Message) (d : Decision) where
-  refuses : (r : Refusal) {a : Action} → (d .verdict ≡ Refused r) × (d .gone ≡ false) → act nidecHolds (record { station = s; bag = b }) a ≡ refused r → Decides nidecHolds s b a d
+module _ (l : Leave) (s : declared.Station) (b : List Message) (d : Decision) where
+  refuses : (r : Refusal) {a : Action} → (d .verdict ≡ Refused r) × (d .gone ≡ false) → act l (record { station = s; bag = b }) a ≡ refused r → Decides l s b a d
   refuses r {a} e g = record { says = ap (λ v. decided v (effect d (rest a b))) (e .0) ∙ sym g; itself = λ h. clash h (e .1) }
 
-  pub not-in-bag : (m : Message) (found : Bool) → found ≡ false → (d .verdict ≡ Refused NotInBag) × (d .gone ≡ false) → found ≡ holds m b → Decides nidecHolds s b (Deliver m) d
+  pub not-in-bag : (m : Message) (found : Bool) → found ≡ false → (d .verdict ≡ Refused NotInBag) × (d .gone ≡ false) → found ≡ holds m b → Decides l s b (Deliver m) d
   unfolding act require
   not-in-bag m found i e h = refuses NotInBag e (rw (sym h ∙ i))
 
-  pub exit-staying : not (s .marks .leaving) ≡ true → (d .verdict ≡ Refused Staying) × (d .gone ≡ false) → Decides nidecHolds s b Exit d
+  pub exit-staying : not (s .marks .leaving) ≡ true → (d .verdict ≡ Refused Staying) × (d .gone ≡ false) → Decides l s b Exit d
   unfolding act require
   exit-staying h e =
       refuses Staying e
-      (ap (λ t. require t Staying (require nidecHolds Held (done (record { after = none; sends = introduceBoth (s .left) (s .right) })))) (not-true (s .marks .leaving) h))
+      (ap (λ t. require t Staying (unlessHeld l (done (record { after = none; sends = introduceBoth (s .left) (s .right) })))) (not-true (s .marks .leaving) h))
 
-  pub exit-held : not (s .marks .leaving) ≡ false → not nidecHolds ≡ true → (d .verdict ≡ Refused Held) × (d .gone ≡ false) → Decides nidecHolds s b Exit d
-  unfolding act require
-  exit-held h i e =
-      refuses Held e
-      (ap₂ (λ (t u : Bool). require t Staying (require u Held (done (record { after = none; sends = introduceBoth (s .left) (s .right) }))))
-      (not-false (s .marks .leaving) h) (not-true nidecHolds i))
+  pub exit-held : not (s .marks .leaving) ≡ false → (why : Reason) → l ≡ MayNot why → (d .verdict ≡ Refused (Held why)) × (d .gone ≡ false) → Decides l s b Exit d
+  unfolding act require unlessHeld
+  exit-held h why i e = refuses (Held why) e (rw (not-false (s .marks .leaving) h, i))
 
 -- What is done.
-module _ (nidecHolds : Bool) (s : declared.Station) (b : List Message) where
-  pub exits : (p : Sendings) → not (s .marks .leaving) ≡ false → not nidecHolds ≡ false → bothSent p ≡ introduceBoth (s .left) (s .right)
-      → Decides nidecHolds s b Exit (record { verdict = Done; gone = true; station = s; sendings = p })
-  unfolding act require
+module _ (l : Leave) (s : declared.Station) (b : List Message) where
+  pub exits : (p : Sendings) → not (s .marks .leaving) ≡ false → l ≡ May → bothSent p ≡ introduceBoth (s .left) (s .right)
+      → Decides l s b Exit (record { verdict = Done; gone = true; station = s; sendings = p })
+  unfolding act require unlessHeld
   exits p h k e = record {
-    says = ap (λ (l : List Send). done (record { after = none; sends = l })) e
-        ∙ sym (ap₂ (λ (t u : Bool). require t Staying (require u Held (done (record { after = none; sends = introduceBoth (s .left) (s .right) }))))
-        (not-false (s .marks .leaving) h) (not-false nidecHolds k));
+    says = ap (λ (l : List Send). done (record { after = none; sends = l })) e ∙ sym (rw (not-false (s .marks .leaving) h, k));
     itself = λ z. refl;
   }
 
   pub delivers : (m : Message) (found : Bool) (r : Reacted) → found ≡ true → reaction r ≡ received s (m .content) → found ≡ holds m b
-      → Decides nidecHolds s b (Deliver m) (record { verdict = Done; gone = false; station = r .station; sendings = record { first = r .sending; second = Nothing } })
+      → Decides l s b (Deliver m) (record { verdict = Done; gone = false; station = r .station; sendings = record { first = r .sending; second = Nothing } })
   unfolding act require
   delivers m found r f e h = record {
     says = ap (λ (u : Reaction). done (record { after = some (record { station = u .station; bag = remove m b }); sends = u .sends })) (sends-one ∙ e)
@@ -213,7 +211,7 @@ module _ (nidecHolds : Bool) (s : declared.Station) (b : List Message) where
 
   -- by the action
   module _ (a : Action) where
-    pub timeout-decides : (p : Sendings) → a ≡ Timeout → bothSent p ≡ timeout s → Decides nidecHolds s b a (record { verdict = Done; gone = false; station = s; sendings = p })
+    pub timeout-decides : (p : Sendings) → a ≡ Timeout → bothSent p ≡ timeout s → Decides l s b a (record { verdict = Done; gone = false; station = s; sendings = p })
     unfolding act
     timeout-decides p i e = rw i (record {
       says = ap (λ (l : List Send). done (record { after = some (record { station = s; bag = b }); sends = l })) e;
@@ -221,8 +219,8 @@ module _ (nidecHolds : Bool) (s : declared.Station) (b : List Message) where
     })
 
     pub delivery-decides : (m : Message) (found : Bool) (d : Decision) → a ≡ Deliver m
-        → ((nidecHolds : Bool) (b : List Message) → found ≡ holds m b → Decides nidecHolds s b (Deliver m) d) → found ≡ isFound a b → Decides nidecHolds s b a d
-    delivery-decides m found d i f h = rw i (f nidecHolds b (h ∙ ap (λ (z : Action). isFound z b) i))
+        → ((l : Leave) (b : List Message) → found ≡ holds m b → Decides l s b (Deliver m) d) → found ≡ isFound a b → Decides l s b a d
+    delivery-decides m found d i f h = rw i (f l b (h ∙ ap (λ (z : Action). isFound z b) i))
 
-    pub exit-decides : (d : Decision) → a ≡ Exit → ((b : List Message) → Decides nidecHolds s b Exit d) → Decides nidecHolds s b a d
+    pub exit-decides : (d : Decision) → a ≡ Exit → ((b : List Message) → Decides l s b Exit d) → Decides l s b a d
     exit-decides d i f = rw i (f b)

@@ -5,6 +5,7 @@ use mathlib.Core.List.{List, [], _++_}
 use mathlib.Core.Option.{none, some}
 use Rattle.line.specs.declared.Station as declared
 use Rattle.line.specs.declared.Message.{Message}
+use Rattle.line.specs.declared.Leave.{Leave}
 use Rattle.line.specs.declared.Action.{Action}
 use Rattle.line.specs.declared.Action.the-variants.{Timeout, Deliver, Exit}
 use Rattle.line.specs.Message.{holds, remove}
@@ -51,6 +52,6 @@ decided Done e = done e
 decided (Refused r) e = refused r
 
 -- d is the decision of station s with the bag b; a station that goes is the one that it was
-pub record Decides (nidecHolds : Bool) (s : declared.Station) (b : List Message) (a : Action) (d : Decision) : Type 0 where
-  pub says : decided (d .verdict) (effect d (rest a b)) ≡ act nidecHolds (record { station = s; bag = b }) a
+pub record Decides (l : Leave) (s : declared.Station) (b : List Message) (a : Action) (d : Decision) : Type 0 where
+  pub says : decided (d .verdict) (effect d (rest a b)) ≡ act l (record { station = s; bag = b }) a
   pub itself : d .gone ≡ true → d .station ≡ s

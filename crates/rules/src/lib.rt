@@ -1,14 +1,16 @@
 // What one station does in a step (document 01, "What a step does at station p"). Left and right are one function over a side.
 use line::Action;
 use line::Content;
+use line::Leave;
 use line::Message;
 use line::Neighbour;
 use line::Refusal;
 use line::Side;
 use line::Station;
 ghost use mathlib.Core.Path.{_≡_};
-ghost use mathlib.Core.Bool.{Bool, false};
+ghost use mathlib.Core.Bool.{false};
 ghost use mathlib.Core.List.{List};
+ghost use Rattle.line.specs.declared.Leave.{Leave};
 ghost use Rattle.line.specs.declared.Message.{Message};
 ghost use Rattle.line.specs.Message as message;
 ghost use Rattle.line.specs.Node as node;
@@ -273,7 +275,7 @@ fn refuse(refusal: Refusal, s: Station) -> Decision
 
 // A delivery, where found says whether the bag holds the message.
 fn deliver(found: bool, s: Station, m: Message) -> Decision
-    ensures { λ r. ⌜ ((nidecHolds : Bool) (b : List Message) → found ≡ message.holds m b → Decides nidecHolds s b (Action.Deliver m) r) ⌝ }
+    ensures { λ r. ⌜ ((l : Leave) (b : List Message) → found ≡ message.holds m b → Decides l s b (Action.Deliver m) r) ⌝ }
 {
     if found {
         let content = m.content;
@@ -294,31 +296,33 @@ fn deliver(found: bool, s: Station, m: Message) -> Decision
     refuse(Refusal::NotInBag, s)
 }
 
-fn exit(nidec_holds: bool, s: Station) -> Decision
-    ensures { λ r. ⌜ ((b : List Message) → Decides «nidec_holds» s b Action.Exit r) ⌝ }
+fn exit(leave: Leave, s: Station) -> Decision
+    ensures { λ r. ⌜ ((b : List Message) → Decides leave s b Action.Exit r) ⌝ }
 {
     let marks = s.marks;
     if !marks.leaving {
         return refuse(Refusal::Staying, s);
     }
-    if !nidec_holds {
-        return refuse(Refusal::Held, s);
-    }
-    let left = s.left;
-    let right = s.right;
-    let sendings = introduce_both(left, right);
-    Decision {
-        verdict: Verdict::Done,
-        gone: true,
-        station: s,
-        sendings,
+    match leave {
+        Leave::May => {
+            let left = s.left;
+            let right = s.right;
+            let sendings = introduce_both(left, right);
+            Decision {
+                verdict: Verdict::Done,
+                gone: true,
+                station: s,
+                sendings,
+            }
+        }
+        Leave::MayNot(why) => refuse(Refusal::Held(why), s),
     }
 }
 
-// A station's part in a step. nidec_holds says whether NIDEC holds for it, and is looked at by an exit only; found says whether its bag
-// holds the message to deliver, and is looked at by a delivery only.
-pub fn decide(nidec_holds: bool, found: bool, s: Station, action: Action) -> Decision
-    ensures { λ r. ⌜ ((b : List Message) → found ≡ isFound action b → Decides «nidec_holds» s b action r) ⌝ }
+// A station's part in a step. leave says whether it may leave, and is looked at by an exit only; found says whether its bag holds the
+// message to deliver, and is looked at by a delivery only.
+pub fn decide(leave: Leave, found: bool, s: Station, action: Action) -> Decision
+    ensures { λ r. ⌜ ((b : List Message) → found ≡ isFound action b → Decides leave s b action r) ⌝ }
 {
     match action {
         Action::Timeout => {
@@ -331,6 +335,6 @@ pub fn decide(nidec_holds: bool, found: bool, s: Station, action: Action) -> Dec
             }
         }
         Action::Deliver(m) => deliver(found, s, m),
-        Action::Exit => exit(nidec_holds, s),
+        Action::Exit => exit(leave, s),
     }
 }

@@ -12,6 +12,7 @@ use line::Reading;
 use line::Refusal;
 use moves::holders::asked_of;
 use moves::holders::is_holder;
+use moves::holders::leave_from;
 use moves::holders::may_hold;
 use moves::sends::bag_after;
 use moves::sends::plan;
@@ -70,8 +71,8 @@ pub fn run_accepted(table: &[u8], sorted: [u64; 64], steps: &[u8], room: &mut [u
         let own = (index[i] % 64) as usize;
         let station = stations[own];
         let count = counts[own];
-        // NIDEC: an exit asks the stations one after another, until one holds this one. A bag is copied out only where it has to be
-        // looked at.
+        // NIDEC: an exit asks the stations by rising number, until one holds this one. A bag is copied out only where it has to be looked
+        // at.
         let asked = asked_of(action, n);
         let mut j: usize = 0;
         while j < asked {
@@ -90,7 +91,7 @@ pub fn run_accepted(table: &[u8], sorted: [u64; 64], steps: &[u8], room: &mut [u
             }
             j += 1;
         }
-        let nidec_holds = (asked <= j) & (count == 0);
+        let leave = leave_from(&index[..n], count, j);
         // What the station does, who receives, and whether the step is done.
         let row = bags[own];
         let taken = bag_after(
@@ -100,15 +101,7 @@ pub fn run_accepted(table: &[u8], sorted: [u64; 64], steps: &[u8], room: &mut [u
                 count,
             },
         );
-        let plan = plan(
-            &index[..n],
-            &counts,
-            i,
-            nidec_holds,
-            taken.found,
-            station,
-            action,
-        );
+        let plan = plan(&index[..n], &counts, i, leave, taken.found, station, action);
         let verdict = plan.verdict;
         if let Verdict::Refused(why) = verdict {
             return finish(

@@ -42,7 +42,8 @@ fn print_run(table: &[u8], steps: &[u8], room: &mut [u8], out: &mut [u8]) -> usi
 {
     let ran = run(table, steps, room);
     let size = 512 * (ran.stations as usize);
-    let end = write_listing(out, ran.answer, ran.done, ran.stations, &room[..size]);
+    let answer = ran.answer;
+    let end = write_listing(out, answer, ran.done, ran.stations, &room[..size]);
     io::write_all(STDOUT_FILENO, &out[..end]);
     size
 }

@@ -1,18 +1,30 @@
--- What the C interface hands back, in the terms of the run and of the questions (document 01, "The numbers a crew may see").
-use Prim.Native.Nat.{ℕ}
+-- What the C interface hands back, in the terms of the run and of the questions (document 01, "The numbers a crew may see"; document 02, T-02).
 use mathlib.Core.Bool.{cond}
-use mathlib.Core.List.{List}
+use Rattle.line.specs.Answer.{carriedNumber, carriedHolder, answerNumber, answerReason}
 use Rattle.finishing.specs.Ended.{Outcome}
 use Rattle.questions.specs.declared.Told.{Told}
 use Rattle.questions.specs.Told.{toldNumber, toldYes}
+use Rattle.leave.specs.declared.LeaveTold.{LeaveTold}
+use Rattle.leave.specs.Leave as leave
 use Rattle.view.specs.declared.Looked.{Looked}
 use Rattle.station_line.specs.declared.StationLineRan.{StationLineRan}
+use Rattle.station_line.specs.declared.StationLineLeave.{StationLineLeave}
 use Rattle.station_line.specs.declared.StationLineTold.{StationLineTold}
 use Rattle.station_line.specs.declared.StationLineViewed.{StationLineViewed}
 
--- the three numbers, with the room that is left
-abbrev pub ranAs : StationLineRan → List ℕ → Outcome
-ranAs r room = record { answer = r .answer; done = r .done; stations = r .stations; room = room }
+-- the number of a run's answer, both counts, and the reason that the answer carries
+unfoldable pub ranAs : Outcome → StationLineRan
+ranAs o = record {
+  answer = answerNumber (o .answer);
+  done = o .done;
+  stations = o .stations;
+  reason = carriedNumber (answerReason (o .answer));
+  holder = carriedHolder (answerReason (o .answer));
+}
+
+-- the number, the reason and the holder of the leave question's answer
+unfoldable pub leaveAs : LeaveTold → StationLineLeave
+leaveAs t = record { answer = leave.toldNumber t; reason = leave.toldReason t; holder = leave.toldHolder t }
 
 -- the number and the value of a question's answer
 unfoldable pub toldAs : Told → StationLineTold

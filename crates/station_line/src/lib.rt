@@ -2,7 +2,9 @@
 // numbers), with the check and the view beside them. Each function hands its call on and repeats the equality of what it calls. A slice
 // is a pointer and a length in C; the view has offsets in the place of references.
 use engine::run;
+use leave::LeaveTold;
 use leave::may_leave;
+use line::Leave;
 use questions::Told;
 use questions::in_line;
 use table::check;
@@ -14,14 +16,26 @@ ghost use Rattle.engine.specs.Ran.{outcome};
 ghost use Rattle.leave.specs.Leave.{mayLeave};
 ghost use Rattle.questions.specs.Told.{isInLine};
 ghost use Rattle.view.specs.View.{viewed};
-ghost use Rattle.station_line.specs.Interface.{ranAs, toldAs, viewedAs};
+ghost use Rattle.station_line.specs.Interface.{ranAs, leaveAs, toldAs, viewedAs};
 
-// The number of a run, the steps done and the stations now.
+// The number of a run, the steps done and the stations now, and at 14 what holds the station: 2 its own bag, 3 the station `holder`; beside
+// any other number both are 0.
 #[repr(C)]
 pub struct StationLineRan {
     pub answer: u32,
     pub done: u32,
     pub stations: u32,
+    pub reason: u32,
+    pub holder: u32,
+}
+
+// The number of the leave question, and at 0 whether the station may leave: 1 yes, 2 its own bag, 3 the station `holder`; beside any other
+// number both are 0.
+#[repr(C)]
+pub struct StationLineLeave {
+    pub answer: u32,
+    pub reason: u32,
+    pub holder: u32,
 }
 
 // The number of a question, and 1 for yes; beside any number but 0 yes is 0.
@@ -50,13 +64,17 @@ pub extern "C" fn station_line_check(table: &[u8]) -> u32
 
 #[no_mangle]
 pub extern "C" fn station_line_run(table: &[u8], steps: &[u8], room: &mut [u8]) -> StationLineRan
-    ensures { λ r. ⌜ ranAs r (now (room .exit)) ≡ outcome (now (table .entry)) (now (steps .entry)) (now (room .entry)) ⌝ }
+    ensures { λ r. ⌜ (r ≡ ranAs (outcome (now (table .entry)) (now (steps .entry)) (now (room .entry)))) × (now (room .exit) ≡ (outcome (now (table .entry)) (now (steps .entry)) (now (room .entry))) .room) ⌝ }
 {
     let ran = run(table, steps, room);
+    let answer = ran.answer;
+    let reason = answer.reason();
     StationLineRan {
-        answer: ran.answer,
+        answer: answer.number(),
         done: ran.done,
         stations: ran.stations,
+        reason: reason.number(),
+        holder: reason.holder(),
     }
 }
 
@@ -70,11 +88,36 @@ fn told_as(told: Told) -> StationLineTold
     }
 }
 
-#[no_mangle]
-pub extern "C" fn station_line_may_leave(table: &[u8], station: u32) -> StationLineTold
-    ensures { λ r. ⌜ r ≡ toldAs (mayLeave (now (table .entry)) station) ⌝ }
+// The number, the reason and the holder of the leave question's answer.
+fn leave_as(told: LeaveTold) -> StationLineLeave
+    ensures { λ r. ⌜ r ≡ leaveAs told ⌝ }
 {
-    told_as(may_leave(table, station))
+    match told {
+        LeaveTold::Refused(number) => StationLineLeave {
+            answer: number,
+            reason: 0,
+            holder: 0,
+        },
+        LeaveTold::Told(leave) => match leave {
+            Leave::May => StationLineLeave {
+                answer: 0,
+                reason: 1,
+                holder: 0,
+            },
+            Leave::MayNot(why) => StationLineLeave {
+                answer: 0,
+                reason: why.number(),
+                holder: why.holder(),
+            },
+        },
+    }
+}
+
+#[no_mangle]
+pub extern "C" fn station_line_may_leave(table: &[u8], station: u32) -> StationLineLeave
+    ensures { λ r. ⌜ r ≡ leaveAs (mayLeave (now (table .entry)) station) ⌝ }
+{
+    leave_as(may_leave(table, station))
 }
 
 #[no_mangle]

@@ -2,19 +2,20 @@
 use mathlib.Core.Path.{_≡_, refl, sym, ap, _∙_}
 use mathlib.Core.Bool.{Bool, true, false, cond, _&&_}
 use mathlib.Core.List.{List, [], _∷_, map, List·Memᴰ as Member, List·Memᴰ·head as here, List·Memᴰ·tail as there}
-use Prim.Native.Nat.{ℕ, suc, _/_, _%_}
+use Prim.Native.Nat.{ℕ, suc, _/_, _%_, _≤_}
 use native.Mathlib.Omega.{arith}
 use lib.Dec.{eqb, leb, ltb}
 use lib.ListN.{length}
-use borrow.Author.Tests.{eqb-true, eqb-false}
+use borrow.Author.Tests.{eqb-true, eqb-false, leb-true}
 use Rattle.lists.specs.Lists.{all}
+use Rattle.lists.proofs.Lists.{and-both}
 use Rattle.line.specs.Node.{numbers}
 use Rattle.line.specs.Accepted.{hasSides, namesPresent}
 use Rattle.lists.specs.Numbers.{areDistinct}
 use Rattle.block.specs.Layout.{checkHolds, fieldsHold, nodeOf}
 use Rattle.block.specs.Layout as block
 use Rattle.table.specs.Blocks.{blocks, nodes}
-use Rattle.table.specs.Fault.{firstFailing, faultOf}
+use Rattle.table.specs.Fault.{Test, firstFailing, faultOf}
 use Rattle.table.specs.Smallest.{smaller, smallest, stationsFault}
 
 -- the first of three tests that does not hold
@@ -111,3 +112,19 @@ passes-accepted t p = rw (p .whole, p .few, p .checks, p .fields, p .sides, p .d
 pub passes-clean : (t : List ℕ) → Passes t → smallest (blocks t) ≡ 0
 unfolding nodes
 passes-clean t p = smallest-tests (blocks t) ∙ rw (p .checks, p .fields, p .sides)
+
+-- The fault of a table is at most 7.
+pub cond-most : {m : ℕ} (b : Bool) (x y : ℕ) → x ≤ m → y ≤ m → cond b x y ≤ m
+cond-most true x y p q = p
+cond-most false x y p q = q
+
+first-most : (m : ℕ) (l : List Test) → all (λ (x : Test). leb (x .number) m) l ≡ true → firstFailing l ≤ m
+unfolding all firstFailing
+first-most m [] h = omega arith
+first-most m (x ∷ l) h =
+    let both = and-both (leb (x .number) m) (all (λ (y : Test). leb (y .number) m) l) h in
+    cond-most (x .holds) (firstFailing l) (x .number) (first-most m l (both .1)) (leb-true (x .number) m (both .0))
+
+pub fault-most : (t : List ℕ) → faultOf t ≤ 7
+unfolding faultOf all
+fault-most t = first-most 7 _ refl

@@ -1,5 +1,5 @@
 -- The blocks of a table without a fault, one after another: each can be printed, and its line stands behind those of the blocks before it.
-use mathlib.Core.Path.{_≡_, refl, sym, ap, _∙_}
+use mathlib.Core.Path.{_≡_, refl, ap, _∙_}
 use mathlib.Core.Bool.{Bool, true}
 use mathlib.Core.List.{List, _++_}
 use Prim.Native.Nat.{ℕ, _+_, _-_, _*_, _/_, _≤_, _<_}
@@ -8,6 +8,8 @@ use native.Mathlib.Omega.{arith}
 use borrow.Author.Tests.{leb-true}
 use lib.ListN.{length, getD, take, drop, List·getD-map}
 use lib.Seq.{take-suc, take-length}
+use Rattle.line.specs.declared.Answered.{Answered}
+use Rattle.line.specs.Answer.{answerNumber}
 use Rattle.octets.specs.Bytes.{word}
 use Rattle.block.specs.Layout.{nodeOf}
 use Rattle.block.proofs.FieldLaws.{no-fault-count}
@@ -59,9 +61,10 @@ module _ {l t m : List ℕ} {at k end : ℕ} (so-far : LinesTo l at t k end m) w
   lines-all h = let e : k ≡ length (nodes t) = omega (arith, so-far .within, nodes-length t) in rw (e, take-length (nodes t)) at (so-far .wrote)
 
 -- where the stations are printed the table has no fault, and room for 64 lines is enough
-module _ (answer : ℕ) (t : List ℕ) (prints : Bool) where
-  pub prints-clean : (printsStations answer ≡ true → faultOf t ≡ 0) → prints ≡ printsStations answer → prints ≡ true → faultOf t ≡ 0
-  prints-clean clean e h = clean (sym e ∙ h)
+module _ (answer : Answered) (t : List ℕ) (clean : printsStations (answerNumber answer) ≡ true → faultOf t ≡ 0) {number : ℕ} (is : number ≡ answerNumber answer) {prints : Bool}
+    (told : prints ≡ printsStations number) (h : prints ≡ true) where
+  pub prints-clean : faultOf t ≡ 0
+  prints-clean = clean (rw (← is, ← told) h)
 
-  pub prints-room : (printsStations answer ≡ true → faultOf t ≡ 0) → prints ≡ printsStations answer → prints ≡ true → {l m w : List ℕ} {k : ℕ} → 40000 ≤ length l → Wrote l 0 w k m → k ≤ 54 → k + 423 * (length t / 512) ≤ length m
-  prints-room clean e h r a g = omega (arith, wrote-length a, leb-true (length t / 512) 64 (accepted-passes t (prints-clean clean e h) .few))
+  pub prints-room : {l m w : List ℕ} {k : ℕ} → 40000 ≤ length l → Wrote l 0 w k m → k ≤ 73 → k + 423 * (length t / 512) ≤ length m
+  prints-room r a g = omega (arith, wrote-length a, leb-true (length t / 512) 64 (accepted-passes t prints-clean .few))

@@ -1,9 +1,13 @@
--- The example of document 01 ("The printed listing") is computed.
+-- The example of document 01 ("The printed listing"), and one of each reason (document 02, T-02), are computed.
 use mathlib.Core.Path.{refl}
 use Rattle.words.specs.Words.{digits, decimal, neighbourText, markText, contentText, spaced, parted}
 use Rattle.text.specs.Listing.{lineText, headText, stationWords, stationText, stationsText, printsStations, listingText}
-use Rattle.text.specs.Claims.{ListingExample}
+use Rattle.text.specs.Claims.{ListingExample, ReasonExamples}
 
 pub listing-example : ListingExample
 unfolding digits decimal neighbourText markText contentText spaced parted lineText headText stationWords stationText stationsText printsStations listingText
 listing-example = record { listing = refl }
+
+pub reason-examples : ReasonExamples
+unfolding digits decimal neighbourText markText contentText spaced parted lineText headText stationWords stationText stationsText printsStations listingText
+reason-examples = record { own-bag = refl; holder = refl }

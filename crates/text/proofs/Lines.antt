@@ -9,6 +9,12 @@ use lib.ListN.{length}
 use Rattle.line.specs.declared.Neighbour.{Neighbour}
 use Rattle.line.specs.declared.Message.{Message}
 use Rattle.line.specs.declared.Station as declared
+use Rattle.line.specs.declared.Reason.{Reason}
+use Rattle.line.specs.declared.Reason.the-variants.{OwnBag, HeldBy}
+use Rattle.line.specs.declared.Carried.{Carried}
+use Rattle.line.specs.declared.Carried.the-variants.{Nothing, Because}
+use Rattle.line.specs.declared.Answered.{Answered}
+use Rattle.line.specs.Answer.{answerNumber, answerReason}
 use Rattle.line.specs.Node.{Node, Line}
 use Rattle.octets.specs.Bytes.{word}
 use Rattle.fields.specs.declared.Place.{Place}
@@ -18,21 +24,46 @@ use Rattle.words.specs.Words.{ascii, decimal, neighbourText, markText, messageT
 use Rattle.words.specs.Writing.{Wrote}
 use Rattle.words.proofs.Written.{wrote-none, wrote-length, wrote-next}
 use Rattle.words.proofs.Spaces.{spaced-more, parted-append}
-use Rattle.text.specs.Listing.{lineText, headText, stationWords, stationText, stationsText, printsStations, listingText}
+use Rattle.text.specs.Listing.{lineText, reasonWords, carriedWords, headText, stationWords, stationText, stationsText, printsStations, listingText}
+
+-- the reason: the own bag, a holder, none, or one
+module _ (why : Reason) {l m : List ℕ} {at r : ℕ} where
+  pub wrote-bag : why ≡ OwnBag → Wrote l at (ascii " bag") r m → Wrote l at (spaced (reasonWords why)) r m
+  unfolding spaced
+  wrote-bag e a = rw e a
+
+  pub wrote-holder : (q : ℕ) → why ≡ HeldBy q → Wrote l at (ascii " held-by " ++ decimal q) r m → Wrote l at (spaced (reasonWords why)) r m
+  unfolding spaced
+  wrote-holder q e a = rw (e, append-nil (decimal q)) a
+
+module _ (carried : Carried) {l : List ℕ} {at : ℕ} where
+  pub wrote-nothing : carried ≡ Nothing → at + 19 ≤ length l → Wrote l at (spaced (carriedWords carried)) at l
+  unfolding spaced
+  wrote-nothing e h = rw e (wrote-none (omega arith))
+
+  pub wrote-reason : (why : Reason) → carried ≡ Because why → {m : List ℕ} {r : ℕ} → Wrote l at (spaced (reasonWords why)) r m → Wrote l at (spaced (carriedWords carried)) r m
+  wrote-reason why e a = rw e a
 
 -- the first line
-regrouped : (s t u v w x y : List ℕ) → (((s ++ t) ++ (u ++ v)) ++ (w ++ x)) ++ y ≡ (s ++ (t ++ (u ++ (v ++ (w ++ (x ++ [])))))) ++ y
-regrouped s t u v w x y = simp (append-assoc, append-nil)
+regrouped : (s t u v w x : List ℕ) → ((s ++ t) ++ (u ++ v)) ++ (w ++ x) ≡ s ++ (t ++ (u ++ (v ++ (w ++ (x ++ [])))))
+regrouped s t u v w x = simp (append-assoc, append-nil)
 
-head-pieces : (answer done stations : ℕ)
-    → (((ascii "answer " ++ decimal answer) ++ (ascii " done " ++ decimal done)) ++ (ascii " stations " ++ decimal stations)) ++ (lineFeed ∷ []) ≡ headText answer done stations
-unfolding headText lineText parted spaced
-head-pieces answer done stations = regrouped (ascii "answer ") (decimal answer) (ascii " done ") (decimal done) (ascii " stations ") (decimal stations) (lineFeed ∷ [])
+-- behind its first word, before the reason
+abbrev counts : ℕ → ℕ → ℕ → List (List ℕ)
+counts number done stations = decimal number ∷ ascii "done" ∷ decimal done ∷ ascii "stations" ∷ decimal stations ∷ []
 
-module _ (answer done stations : ℕ) {l m n o p : List ℕ} {i j k r : ℕ} where
-  pub wrote-head : Wrote l 0 (ascii "answer " ++ decimal answer) i m → Wrote m i (ascii " done " ++ decimal done) j n → Wrote n j (ascii " stations " ++ decimal stations) k o → Wrote o k (lineFeed ∷ []) r p
-      → Wrote l 0 (headText answer done stations) r p
-  wrote-head a b c d = rw (← head-pieces answer done stations) (wrote-next (wrote-next (wrote-next a b) c) d)
+module _ (number done stations : ℕ) {l m n o : List ℕ} {i j r : ℕ} where
+  pub wrote-counts : Wrote l 0 (ascii "answer " ++ decimal number) i m → Wrote m i (ascii " done " ++ decimal done) j n → Wrote n j (ascii " stations " ++ decimal stations) r o
+      → Wrote l 0 (parted (ascii "answer" ∷ counts number done stations)) r o
+  unfolding parted spaced
+  wrote-counts a b c = rw (← regrouped (ascii "answer ") (decimal number) (ascii " done ") (decimal done) (ascii " stations ") (decimal stations)) (wrote-next (wrote-next a b) c)
+
+module _ (answer : Answered) (done stations : ℕ) {number : ℕ} {carried : Carried} {l m n o : List ℕ} {i j r : ℕ} where
+  pub wrote-head : number ≡ answerNumber answer → carried ≡ answerReason answer → Wrote l 0 (parted (ascii "answer" ∷ counts number done stations)) i m
+      → Wrote m i (spaced (carriedWords carried)) j n → Wrote n j (lineFeed ∷ []) r o → Wrote l 0 (headText answer done stations) r o
+  unfolding headText lineText
+  wrote-head e f a b c =
+      rw (← parted-append (ascii "answer") (counts (answerNumber answer) done stations) (carriedWords (answerReason answer))) (rw (e, f) at (wrote-next (wrote-next a b) c))
 
 -- the two neighbours
 two-pieces : (a b : List ℕ) → (space ∷ a) ++ (space ∷ b) ≡ spaced (a ∷ b ∷ [])
@@ -98,11 +129,12 @@ stations-more [] s = rw append-nil
 stations-more (x ∷ line) s = rw (append-assoc, stations-more line s)
 
 -- the whole listing, the lines that follow the first or none
-module _ (answer done stations : ℕ) (line : Line) (prints : Bool) {l m : List ℕ} {k : ℕ} (head : Wrote l 0 (headText answer done stations) k m) (told : prints ≡ printsStations answer) where
+module _ (answer : Answered) (done stations : ℕ) (line : Line) {number : ℕ} (is : number ≡ answerNumber answer) {prints : Bool} (told : prints ≡ printsStations number)
+    {l m : List ℕ} {k : ℕ} (head : Wrote l 0 (headText answer done stations) k m) where
   pub listing-long : prints ≡ true → {n : List ℕ} {r : ℕ} → Wrote m k (stationsText line) r n → Wrote l 0 (listingText answer done stations line) r n
   unfolding listingText
-  listing-long h a = rw (← told, h) (wrote-next head a)
+  listing-long h a = rw (← is, ← told, h) (wrote-next head a)
 
   pub listing-short : prints ≡ false → Wrote l 0 (listingText answer done stations line) k m
   unfolding listingText
-  listing-short h = rw (← told, h, append-nil) head
+  listing-short h = rw (← is, ← told, h, append-nil) head

@@ -10,7 +10,9 @@ exit-spec =
     (tie.spec
     (λ c κs. search needs)
     (λ c. search exit-staying)
+    (λ c. search needs)
     (λ c κs. search needs)
-    (λ c. search exit-held)
+    (λ c. search needs)
     (λ c κs. search needs)
-    (λ c. search exits))
+    (λ c. search exits)
+    (λ c. search exit-held))

@@ -17,7 +17,7 @@ use Rattle.effects.proofs.Effects.{Planned, first-room, leaves, second-room, st
 use Rattle.running.proofs.Ending.{finish-asks, ends-as}
 use Rattle.effects.proofs.Stores.{consistent-taken, Arrived, arrived-one, withBags, arrived-none, BetweenSteps, OwnStored, withStation, own-taken, own-untaken}
 use Rattle.effects.proofs.Underway.{Underway, underway-start, underway-absent, underway-end, underway-malformed, underway-refused, underway-next}
-use Rattle.effects.proofs.Asked.{Asking, asking-none, asking-next, asking-plainly}
+use Rattle.effects.proofs.Asked.{Asking, asking-none, asking-next, asking-plainly, holder-fits}
 use Rattle.running.proofs.run_accepted.Statement.{statement}
 use Rattle.running.proofs.run_accepted.Tie as tie
 use mathlib.Core.Logic.{⊎-elim, inl, inr}
@@ -85,7 +85,7 @@ worked e =
     let w = walked e in
     let f = found w in
     planned-by (the-step e) (the-place e) (turn e .before .loop .inv .between) (f .if1 .left) (f .before .lookup .ensures) (w .before .before .asked-of .ensures) (w .before .loop2 .inv)
-    (⊎-elim (λ w. inl (w .left)) (λ w. inr (w .0 .taken, sym (w .5 .ensures) ∙ w .6 .taken)) (w .loop2-test .came)) (e .before .before .before .bag-after .ensures) (e .plan .ensures)
+    (⊎-elim (λ w. inl (w .left)) (λ w. inr (w .0 .taken, sym (w .5 .ensures) ∙ w .6 .taken)) (w .loop2-test .came)) (e .before .before .before .before .before .leave-from .ensures) (e .before .before .before .bag-after .ensures) (e .plan .ensures)
 
 -- the arrays after the station's own store, and what each message that is sent makes of them
 abbrev restationed : tie.After-plan Inv-loop2 μ-loop2 Inv-loop μ-loop → Arrays
@@ -152,6 +152,12 @@ loop2-again : tie.Need-loop2-again Inv-loop2 μ-loop2 Inv-loop μ-loop
 loop2-again c = let t = c .before .before .before in
     ⊎-elim (λ w. asking-next (t .before .loop2 .inv) (t .loop2-test .taken) (w .2 .ensures) (w .3 .left)) (λ w. search asking-plainly) (c .if2 .came)
 
+slice-aggregate-leave-from : tie.Need-slice-aggregate-leave-from Inv-loop2 μ-loop2 Inv-loop μ-loop
+slice-aggregate-leave-from c = search consistent-taken
+
+leave-from-requires : tie.Need-leave-from-requires Inv-loop2 μ-loop2 Inv-loop μ-loop
+leave-from-requires c κs = let w : tie.Left-loop2 Inv-loop2 μ-loop2 Inv-loop μ-loop = search in holder-fits (turn-of (read (found w)) .before .loop .inv .between) _
+
 slice-aggregate-plan : tie.Need-slice-aggregate-plan Inv-loop2 μ-loop2 Inv-loop μ-loop
 slice-aggregate-plan c = search consistent-taken
 
@@ -179,6 +185,12 @@ put-in-requires-2 c κs = let m : tie.At-match3-came Inv-loop2 μ-loop2 Inv-loop
 
 add-k : tie.Need-add-k Inv-loop2 μ-loop2 Inv-loop μ-loop
 add-k c = let t = turn (planned (own-of (c .before))) in omega (arith, t .loop-test .taken, t .before .loop .inv .list)
+
+drop-entry-requires : tie.Need-drop-entry-requires Inv-loop2 μ-loop2 Inv-loop μ-loop
+drop-entry-requires c κs = let t = found (walked (planned (own-of (c .before .before)))) in (t .if1 .left, turn (planned (own-of (c .before .before))) .before .loop .inv .between .consistent .few)
+
+sub-n : tie.Need-sub-n Inv-loop2 μ-loop2 Inv-loop μ-loop
+sub-n c = omega (arith, found (walked (planned (own-of (c .before .before .before)))) .if1 .left)
 
 loop-less : tie.Need-loop-less Inv-loop2 μ-loop2 Inv-loop μ-loop
 loop-less c = omega (arith, turn (planned (own-of (c .before .before .before))) .loop-test .taken)
@@ -249,6 +261,9 @@ run-accepted-spec =
     (λ c. search needs)
     loop2-again
     (λ c. search needs)
+    slice-aggregate-leave-from
+    leave-from-requires
+    (λ c. search needs)
     (λ c. search needs)
     (λ c κs. search needs)
     (λ c. search needs)
@@ -280,8 +295,8 @@ run-accepted-spec =
     (λ c. search needs)
     (λ c. search needs)
     add-k
-    (λ c κs. search needs)
-    (λ c. search needs)
+    drop-entry-requires
+    sub-n
     loop-less
     loop-again
     loop-less-2

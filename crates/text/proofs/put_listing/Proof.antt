@@ -20,6 +20,7 @@ put-listing-spec =
     (tie.spec
     (λ c κs. search needs)
     (λ c κs. search needs)
+    (λ c κs. search needs)
     put-lines-requires
     (λ c. search needs)
     returns

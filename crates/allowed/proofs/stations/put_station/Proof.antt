@@ -10,10 +10,10 @@ use Rattle.allowed.proofs.stations.put_station.Statement.{statement}
 use Rattle.allowed.proofs.stations.put_station.Tie as tie
 
 abbrev Inv-loop : tie.InvT-loop
-Inv-loop out₀ at table index counts i own station left right nidec-holds n introduced end₀ k₀ out end k = PutTo out₀ at table index counts i station left right nidec-holds n introduced end k out
+Inv-loop out₀ at table index counts i own station left right leave n introduced end₀ k₀ out end k = PutTo out₀ at table index counts i station left right leave n introduced end k out
 
 abbrev μ-loop : tie.MeasureT-loop
-μ-loop out₀ at table index counts i own station left right nidec-holds n introduced end₀ k₀ out end k = n + 4 - k
+μ-loop out₀ at table index counts i own station left right leave n introduced end₀ k₀ out end k = n + 4 - k
 
 choose-requires : tie.Need-choose-requires Inv-loop μ-loop
 choose-requires c κs = (search index-few, search index-small, search needs)
@@ -30,7 +30,7 @@ loop-holds c =
     put-none s (standing-named s refl (numbers .before .before .number-at .ensures))
     (removal-held Left _ (left .has-kind .ensures) ∙ block-holds s block _)
     (removal-held Right _ (right .has-kind2 .ensures) ∙ block-holds s block _)
-    (c .before .nidec-at .ensures)
+    (c .before .leave-at .ensures)
     (chosen-held s block _ (numbers .numbers-of .ensures) (chosen .0))
     (chosen-whole s block _ (numbers .numbers-of .ensures) (chosen .0))
     (chosen .1) (chosen .2) (pre .1)
