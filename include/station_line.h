@@ -22,9 +22,9 @@ extern "C" {
 #endif
 
 /* The version of this header; station_line_version() has that of the library that is linked. */
-#define STATION_LINE_VERSION_MAJOR 1
-#define STATION_LINE_VERSION_MINOR 2
-#define STATION_LINE_VERSION "1.2"
+#define STATION_LINE_VERSION_MAJOR 2
+#define STATION_LINE_VERSION_MINOR 0
+#define STATION_LINE_VERSION "2.0"
 
 /* Sizes. */
 #define STATION_LINE_BLOCK_BYTES 512
@@ -58,9 +58,20 @@ enum {
     STATION_LINE_FULL = 15            /* a bag that must receive holds 32 */
 };
 
-/* What a run returns: its number, the steps done before the first refused one, and the stations now. */
+/* Reasons: what the leave question finds, and at 2 and 3 why a run stops with 14. The bag is looked at first, so 2 is given
+ * wherever it is not empty, whoever else holds the station. */
+enum {
+    STATION_LINE_NO_REASON = 0, /* there is none to give */
+    STATION_LINE_MAY_LEAVE = 1, /* it may leave */
+    STATION_LINE_OWN_BAG = 2,   /* own bag not empty */
+    STATION_LINE_HELD_BY = 3    /* another station has it as a neighbour or as an introduction in its bag */
+};
+
+/* What a run returns: its number, the steps done before the first refused one, and the stations now. At 14 reason is 2 or 3: why
+ * the station of the refused step may not leave, as station_line_may_leave() tells of the table written; at every other number
+ * reason is 0. Where reason is 3, holder is the smallest station that holds it; else holder is 0. */
 struct station_line_ran {
-    uint32_t answer, done, stations;
+    uint32_t answer, done, stations, reason, holder;
 };
 
 /* What a call that fills a list returns: its number and, where that is 0, the steps filled. Beside any other number filled is 0. */
@@ -68,7 +79,14 @@ struct station_line_filled {
     uint32_t answer, filled;
 };
 
-/* What a question returns: its number and, where that is 0, yes (1) or no (0). Beside any other number yes is 0. */
+/* What the leave question returns: its number and, where that is 0, reason 1, 2 or 3; beside any other number reason is 0. Where
+ * reason is 3, holder is the smallest station that holds the one asked about, whatever the order of the blocks; else holder is
+ * 0. */
+struct station_line_leave {
+    uint32_t answer, reason, holder;
+};
+
+/* What the line question returns: its number and, where that is 0, yes (1) or no (0). Beside any other number yes is 0. */
 struct station_line_told {
     uint32_t answer, yes;
 };
@@ -102,8 +120,8 @@ struct station_line_ran station_line_run(const uint8_t *table, size_t table_len,
 struct station_line_filled station_line_allowed(const uint8_t *table, size_t table_len, uint8_t *room, size_t room_len);
 
 /* Whether NIDEC holds for a station, leaving mark or not: its bag is empty and no other station has it as a neighbour or as an
- * introduction in its bag. 1 to 7 of the table, 11 where no block has that number, or 0 with yes or no. */
-struct station_line_told station_line_may_leave(const uint8_t *table, size_t table_len, uint32_t station);
+ * introduction in its bag; and if not, why not. 1 to 7 of the table, 11 where no block has that number, or 0 with the reason. */
+struct station_line_leave station_line_may_leave(const uint8_t *table, size_t table_len, uint32_t station);
 
 /* Whether the table is in line: each station's left is the next smaller station present, none for the smallest, and likewise its
  * right. 1 to 7 of the table, or 0 with yes or no. The empty table is in line. */
@@ -121,7 +139,7 @@ struct station_line_viewed station_line_view(const uint8_t *table, size_t table_
  * can't be read, has words too; a number without a meaning has words that say so. */
 const char *station_line_words(uint32_t number);
 
-/* The version of the library, as "1.2". */
+/* The version of the library, as "2.0". */
 const char *station_line_version(void);
 
 #ifdef __cplusplus
