@@ -6,6 +6,8 @@ pub struct Ran {
     pub answer: u32,
     pub done: u32,
     pub stations: u32,
+    pub reason: u32,
+    pub holder: u32,
 }
 
 #[repr(C)]
@@ -13,6 +15,14 @@ pub struct Ran {
 pub struct Filled {
     pub answer: u32,
     pub filled: u32,
+}
+
+#[repr(C)]
+#[derive(Clone, Copy, Debug, PartialEq, Eq)]
+pub struct Leave {
+    pub answer: u32,
+    pub reason: u32,
+    pub holder: u32,
 }
 
 #[repr(C)]
@@ -47,7 +57,7 @@ unsafe extern "C" {
         room: *mut u8,
         room_len: usize,
     ) -> Filled;
-    fn station_line_may_leave(table: *const u8, table_len: usize, station: u32) -> Told;
+    fn station_line_may_leave(table: *const u8, table_len: usize, station: u32) -> Leave;
     fn station_line_in_line(table: *const u8, table_len: usize) -> Told;
     fn station_line_view(table: *const u8, table_len: usize, position: usize) -> Viewed;
 }
@@ -143,7 +153,7 @@ pub fn allowed(table: &Lent, room: &mut Lent) -> Filled {
     unsafe { station_line_allowed(table.pointer(), table.len, room.pointer_mut(), room_len) }
 }
 
-pub fn may_leave(table: &Lent, station: u32) -> Told {
+pub fn may_leave(table: &Lent, station: u32) -> Leave {
     unsafe { station_line_may_leave(table.pointer(), table.len, station) }
 }
 

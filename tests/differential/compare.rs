@@ -6,7 +6,9 @@ use crate::allowed::{self, same_allowed};
 use crate::archive::{self, Lent, Told, Viewed, all_pattern};
 use crate::cases::{Case, KINDS, RECEIVERS};
 use crate::joined;
+use crate::leaving::{same_leave, same_of_alike, same_reason};
 use crate::random::Random;
+use crate::reasons;
 use crate::tables::{self, BLOCK};
 use crate::tally::{Comparison, Tally};
 
@@ -33,6 +35,7 @@ pub fn show(case: &Case) {
     if let Ok(table) = model::read_table(&case.table) {
         let before = model::Ran {
             answer: 0,
+            reason: None,
             done: 0,
             table: Some(table),
         };
@@ -55,6 +58,7 @@ pub fn show(case: &Case) {
         Some(Ok(table)) => {
             let written = model::Ran {
                 answer: ran.answer,
+                reason: None, // it stands in the numbers above
                 done: ran.done as usize,
                 table: Some(table),
             };
@@ -84,11 +88,15 @@ pub fn compare(random: &mut Random, case: &Case, tally: &mut Tally) -> Result<()
     tally.compared(Comparison::Check, checked)?;
     let lined = same_line(&table, &case.table, tally);
     tally.compared(Comparison::Line, lined)?;
-    let left = same_leave(random, &table, &case.table, tally);
+    let left = same_leave(random, &table, &case.table, &mut tally.leaves);
     tally.compared(Comparison::Leave, left)?;
     let viewed = same_view(random, &table, &case.table, tally);
     tally.compared(Comparison::View, viewed)?;
     tally.compared(Comparison::Lent, lent_whole(case, &table, &list, &room))?;
+    if wanted.answer == 14 {
+        let reason = same_reason(case, ran, &room.bytes()[..written.len()], &mut tally.leaves);
+        tally.compared(Comparison::Reason, reason)?;
+    }
     if wanted.table.is_some() {
         let joined = same_joins(case, ran, &room.bytes()[..written.len()], tally);
         tally.compared(Comparison::Joins, joined)?;
@@ -101,10 +109,13 @@ pub fn compare(random: &mut Random, case: &Case, tally: &mut Tally) -> Result<()
 }
 
 fn same_numbers(ran: archive::Ran, wanted: &model::Ran) -> Result<(), String> {
+    let (reason, holder) = reasons::of_run(wanted.reason);
     let numbers = archive::Ran {
         answer: wanted.answer,
         done: wanted.done as u32,
         stations: wanted.stations() as u32,
+        reason,
+        holder,
     };
     if ran == numbers {
         return Ok(());
@@ -147,25 +158,6 @@ fn same_line(lent: &Lent, table: &[u8], tally: &mut Tally) -> Result<(), String>
     Err(format!(
         "in line: the archive gives {line:?}, the model {wanted:?}"
     ))
-}
-
-fn same_leave(
-    random: &mut Random,
-    lent: &Lent,
-    table: &[u8],
-    tally: &mut Tally,
-) -> Result<(), String> {
-    for station in asked(random, table) {
-        let leave = archive::may_leave(lent, station);
-        let wanted = told(model::may_leave(table, station));
-        tally.leave.count(wanted);
-        if leave != wanted {
-            return Err(format!(
-                "may {station} leave: the archive gives {leave:?}, the model {wanted:?}"
-            ));
-        }
-    }
-    Ok(())
 }
 
 /// Walks the view from the first block to the end and past it, and asks it at positions far away.
@@ -224,37 +216,6 @@ fn lent_whole(case: &Case, table: &Lent, list: &Lent, room: &Lent) -> Result<(),
     Ok(())
 }
 
-/// Stations to ask about: some or all that are present, their nearest numbers, and numbers that no station can have.
-fn asked(random: &mut Random, table: &[u8]) -> Vec<u32> {
-    let present: Vec<u32> = table
-        .chunks_exact(BLOCK)
-        .map(|block| u32::from_le_bytes([block[4], block[5], block[6], block[7]]))
-        .collect();
-    let mut asked = Vec::new();
-    if present.is_empty() || random.percent(30) {
-        asked.push(*random.pick(&[0, 1, 999_999, 1_000_000, u32::MAX]));
-    }
-    if present.is_empty() {
-        return asked;
-    }
-    if random.percent(2) {
-        asked.extend(&present);
-    }
-    for _ in 0..2 {
-        asked.push(*random.pick(&present));
-    }
-    let near = *random.pick(&present);
-    let anywhere = random.next() as u32;
-    asked.push(*random.pick(&[
-        near.wrapping_add(1),
-        near.wrapping_sub(1),
-        near ^ 0x1_0000,
-        near ^ 0x0100_0000,
-        anywhere,
-    ]));
-    asked
-}
-
 /// The stations still present are joined as they were, and each that has gone has gone by an exit among the steps done.
 fn same_joins(
     case: &Case,
@@ -281,14 +242,16 @@ fn same_joins(
     Ok(())
 }
 
-/// Receivers that hold the same table in different stored orders write the same bytes and give the same numbers, whether one of
-/// them is handed the list whole or in pieces, with its table stored anew in between.
+/// Receivers that hold the same table in different stored orders write the same bytes and give the same numbers, the reason of a 14 among
+/// them, whether one of them is handed the list whole or in pieces, with its table stored anew in between. They also answer the leave
+/// question alike.
 fn two_receivers(random: &mut Random, case: &Case, tally: &mut Tally) -> Result<(), String> {
     let first = archive::receive(&case.table, &case.steps);
     let mut shuffled = tables::shuffle_bytes(random, &case.table);
     if archive::receive(&shuffled, &case.steps) != first {
         return Err("two receivers: another stored order gives something else".to_string());
     }
+    same_of_alike(random, &case.table, &shuffled)?;
     tally.receivers += 1;
     if first.0.answer != 0 && first.0.answer < 10 {
         return Ok(());

@@ -190,14 +190,21 @@ pub fn length(random: &mut Random) -> usize {
     }
 }
 
+fn is_refused(table: &Table, step: Step, number: u32) -> bool {
+    effect(table, step).is_err_and(|refusal| refusal.number == number)
+}
+
 /// A step that is refused with this number, 10 to 15, at this table; None where the table has none that was found.
 pub fn refused(random: &mut Random, table: &Table, number: u32) -> Option<[u8; STEP]> {
     if number == 10 {
         return Some(malformed(random, table));
     }
-    let fits = |step: &Step| effect(table, *step) == Err(number);
+    let fits = |step: &Step| is_refused(table, *step, number);
     if number == 15 {
         return full(random, table).map(write_step);
+    }
+    if number == 14 {
+        return held(random, table).map(write_step);
     }
     for _ in 0..40 {
         let step = candidate(random, table, number);
@@ -223,7 +230,7 @@ fn candidate(random: &mut Random, table: &Table, number: u32) -> Step {
     };
     let action = match number {
         12 => Deliver(message),
-        13 | 14 => Exit,
+        13 => Exit,
         _ => *random.pick(&[Timeout, Deliver(message), Exit]),
     };
     Step { station, action }
@@ -241,7 +248,7 @@ pub fn at_full_bags(table: &Table) -> Vec<Step> {
     for (&station, held) in table {
         let mut try_step = |action| {
             let step = Step { station, action };
-            if effect(table, step) == Err(15) {
+            if is_refused(table, step, 15) {
                 found.push(step);
             }
         };
@@ -269,6 +276,28 @@ fn full(random: &mut Random, table: &Table) -> Option<Step> {
     } else {
         Some(*random.pick(&found))
     }
+}
+
+/// An exit of a leaving station that may not go: half of the time one that another station holds, since a bag that is not empty is the
+/// commoner reason.
+fn held(random: &mut Random, table: &Table) -> Option<Step> {
+    let leaving = table.iter().filter(|(_, station)| station.leaving);
+    let (in_bag, by_others): (Vec<_>, Vec<_>) = leaving
+        .filter(|(station, _)| !nidec(table, **station))
+        .partition(|(_, held)| !held.bag.is_empty());
+    let found = if in_bag.is_empty() || (!by_others.is_empty() && random.percent(50)) {
+        by_others
+    } else {
+        in_bag
+    };
+    if found.is_empty() {
+        return None;
+    }
+    let (&station, _) = *random.pick(&found);
+    Some(Step {
+        station,
+        action: Exit,
+    })
 }
 
 /// A station number without a block.

@@ -5,6 +5,7 @@ use model::{Action, Ran, STEP, read_step};
 use crate::allowed::Lists;
 use crate::archive::{Told, Viewed};
 use crate::cases::{Case, KINDS};
+use crate::leaving::Leaves;
 use crate::steps::RULES;
 
 /// What is compared, each over every case that it fits.
@@ -16,31 +17,33 @@ pub enum Comparison {
     Check,
     Line,
     Leave,
+    Reason,
     View,
     Lent,
     Joins,
     Receivers,
 }
 
-pub const COMPARISONS: [&str; 10] = [
-    "the run's number and counts",
+pub const COMPARISONS: [&str; 11] = [
+    "the run's number, counts, reason and holder",
     "every byte of the room",
     "the list of allowed steps, and every byte of its room",
     "the check",
     "the line question",
-    "the leave question",
+    "the leave question: number, reason and holder",
+    "the reason of a 14, and the leave question about what was written",
     "the view at every position and past the end",
     "lent memory, and what lies around it, as it was",
     "joined stations before and after",
     "two receivers of one table",
 ];
 
-/// The answers to a question: by number, those at 0 parted into no and yes.
+/// The answers to the line question: by number, those at 0 parted into no and yes.
 #[derive(Default)]
 pub struct Answers {
     pub no: u64,
     pub yes: u64,
-    pub refused: [u64; 16],
+    pub refused: [u64; 8],
 }
 
 impl Answers {
@@ -83,8 +86,8 @@ pub struct Tally {
     pub kinds: [u64; KINDS.len()],
     pub run: [u64; 16],
     pub check: [u64; 8],
-    pub leave: Answers,
     pub line: Answers,
+    pub leaves: Leaves,
     pub view: Views,
     pub lists: Lists,
     /// The refused steps 11 to 15 by action: timeout, deliver, exit.
@@ -157,14 +160,11 @@ impl Tally {
         for (number, &count) in self.check.iter().enumerate() {
             need(count, format!("check {number}"));
         }
-        for (name, answers) in [("may leave", &self.leave), ("in line", &self.line)] {
-            need(answers.no, format!("{name} no"));
-            need(answers.yes, format!("{name} yes"));
-            for number in 1..=7 {
-                need(answers.refused[number], format!("{name} {number}"));
-            }
+        need(self.line.no, "in line no".to_string());
+        need(self.line.yes, "in line yes".to_string());
+        for number in 1..=7 {
+            need(self.line.refused[number], format!("in line {number}"));
         }
-        need(self.leave.refused[11], "may leave 11".to_string());
         need(self.view.blocks, "view of a block".to_string());
         need(self.view.ends, "view of the end".to_string());
         for number in 1..=7 {
@@ -204,6 +204,7 @@ impl Tally {
             self.receivers_steps,
             "two receivers that do steps".to_string(),
         );
+        missing.extend(self.leaves.missing());
         missing.extend(self.lists.missing());
         missing
     }
@@ -233,16 +234,13 @@ impl Tally {
         for (number, count) in self.check.iter().enumerate() {
             println!("{count:>10}  {number}");
         }
-        for (name, answers) in [("leave", &self.leave), ("line", &self.line)] {
-            println!("answers of the {name} question:");
-            println!("{:>10}  0, no", answers.no);
-            println!("{:>10}  0, yes", answers.yes);
-            for (number, &count) in answers.refused.iter().enumerate() {
-                if count > 0 {
-                    println!("{count:>10}  {number}");
-                }
-            }
+        println!("answers of the line question:");
+        println!("{:>10}  0, no", self.line.no);
+        println!("{:>10}  0, yes", self.line.yes);
+        for (number, count) in self.line.refused.iter().enumerate().skip(1) {
+            println!("{count:>10}  {number}");
         }
+        self.leaves.print();
         println!("answers of the view:");
         println!("{:>10}  0, a block", self.view.blocks);
         println!("{:>10}  0, the end", self.view.ends);

@@ -10,6 +10,8 @@ mod bytes;
 #[cfg(test)]
 mod first_steps;
 mod listing;
+#[cfg(test)]
+mod reasons;
 mod rules;
 #[cfg(test)]
 mod situations;
@@ -19,7 +21,7 @@ use std::collections::BTreeMap;
 pub use allowed::{allowed, fill};
 pub use bytes::{read_step, read_table, write_step, write_table};
 pub use listing::{listing, program};
-pub use rules::{Effect, apply, copies, effect, nidec};
+pub use rules::{Effect, Refusal, apply, copies, effect, held, nidec};
 
 /// The sizes of "What the engine holds", "The block" and "The step list".
 pub const BLOCK: usize = 512;
@@ -65,10 +67,25 @@ pub enum Action {
     Exit,
 }
 
-/// "The numbers a crew may see". The table after the steps done is there where it is written: at 0 and at 10 to 15.
+/// Why a station may not leave (document 02, T-02): "own bag not empty", or the station that holds it.
+#[derive(Clone, Copy, Debug, PartialEq, Eq)]
+pub enum Reason {
+    OwnBag,
+    HeldBy(u32),
+}
+
+/// "The leave question now returns yes", or why not (document 02, T-02).
+#[derive(Clone, Copy, Debug, PartialEq, Eq)]
+pub enum Leave {
+    Yes,
+    No(Reason),
+}
+
+/// "The numbers a crew may see", and at 14 the reason. The table after the steps done is there where it is written: at 0 and at 10 to 15.
 #[derive(Clone, Debug, PartialEq, Eq)]
 pub struct Ran {
     pub answer: u32,
+    pub reason: Option<Reason>,
     pub done: usize,
     pub table: Option<Table>,
 }
@@ -87,6 +104,7 @@ impl Ran {
     fn nothing(answer: u32) -> Ran {
         Ran {
             answer,
+            reason: None,
             done: 0,
             table: None,
         }
@@ -113,35 +131,41 @@ pub fn run(table: &[u8], steps: &[u8], room: usize) -> Ran {
     if room < table.len() {
         return Ran::nothing(9);
     }
-    let mut answer = 0;
+    let mut end = Refusal::from(0);
     let mut done = 0;
     for twelve in steps.chunks(STEP) {
-        match read_step(twelve).and_then(|step| effect(&now, step)) {
+        let step = read_step(twelve).map_err(Refusal::from);
+        match step.and_then(|step| effect(&now, step)) {
             Ok(effect) => {
                 apply(&mut now, effect);
                 done += 1;
             }
-            Err(number) => {
-                answer = number;
+            Err(refusal) => {
+                end = refusal;
                 break;
             }
         }
     }
     Ran {
-        answer,
+        answer: end.number,
+        reason: end.reason,
         done,
         table: Some(now),
     }
 }
 
-/// "Ask whether a station may leave, which is yes exactly when NIDEC holds for it, leaving mark or not"; 11 where it is absent.
-pub fn may_leave(table: &[u8], station: u32) -> Result<bool, u32> {
-    let stations = read_table(table)?;
-    if stations.contains_key(&station) {
-        Ok(nidec(&stations, station))
-    } else {
-        Err(11)
+/// "Ask whether a station may leave, which is yes exactly when NIDEC holds for it, leaving mark or not"; 11 where it is absent. Of a no it
+/// tells why (document 02, T-02).
+pub fn may_leave(table: &[u8], station: u32) -> Result<Leave, u32> {
+    leave(&read_table(table)?, station)
+}
+
+/// The same of a table that is read already.
+pub fn leave(stations: &Table, station: u32) -> Result<Leave, u32> {
+    if !stations.contains_key(&station) {
+        return Err(11);
     }
+    Ok(held(stations, station).map_or(Leave::Yes, Leave::No))
 }
 
 /// "In line: each station's left is the next smaller station present, none for the smallest, and likewise its right."

@@ -1,6 +1,6 @@
 //! "The printed listing".
 
-use crate::{Message, Ran, run};
+use crate::{Message, Ran, Reason, run};
 
 /// The files that are too long to be read, by number 16.
 const LONGEST_TABLE: usize = 32_768;
@@ -19,13 +19,23 @@ pub fn program(table: Option<&[u8]>, steps: Option<&[u8]>) -> String {
     }
 }
 
+/// "The printed first line then ends in `bag`, or `held-by` and the station number" (document 02, T-02).
+fn ending(reason: Option<Reason>) -> String {
+    match reason {
+        None => String::new(),
+        Some(Reason::OwnBag) => " bag".to_string(),
+        Some(Reason::HeldBy(holder)) => format!(" held-by {holder}"),
+    }
+}
+
 /// The first line, and for answers 0 and 10 to 15 a line per station.
 pub fn listing(ran: &Ran) -> String {
     let mut text = format!(
-        "answer {} done {} stations {}\n",
+        "answer {} done {} stations {}{}\n",
         ran.answer,
         ran.done,
-        ran.stations()
+        ran.stations(),
+        ending(ran.reason)
     );
     let name = |side: Option<u32>| side.map_or("-".to_string(), |number| number.to_string());
     for (number, station) in ran.table.iter().flatten() {

@@ -3,7 +3,7 @@
 //! A step is first worked out against the table as it stands, which changes nothing and may refuse, and is then carried out as
 //! a whole. "A refused step changes nothing at all" therefore needs no undoing.
 
-use crate::{Action, MOST_MESSAGES, Message, Station, Step, Table};
+use crate::{Action, MOST_MESSAGES, Message, Reason, Station, Step, Table};
 
 /// What a step comes to: station p as it is afterwards (None when its block goes), and who receives what.
 #[derive(Clone, Debug, PartialEq, Eq)]
@@ -13,26 +13,53 @@ pub struct Effect {
     sent: Vec<(u32, Message)>,
 }
 
+/// The number of a refused step, and at 14 "the same reason" that the leave question gives (document 02, T-02).
+#[derive(Clone, Copy, Debug, PartialEq, Eq)]
+pub struct Refusal {
+    pub number: u32,
+    pub reason: Option<Reason>,
+}
+
+impl From<u32> for Refusal {
+    fn from(number: u32) -> Refusal {
+        Refusal {
+            number,
+            reason: None,
+        }
+    }
+}
+
 /// The number of messages in a station's bag, every copy counted.
 pub fn copies(station: &Station) -> usize {
     station.bag.values().sum()
 }
 
-/// "NIDEC holds for p when p's bag is empty and no other station has p as a neighbour or as an introduction in its bag."
-pub fn nidec(table: &Table, p: u32) -> bool {
+/// "\"Own bag not empty\", or the smallest station that still has the asked one as a neighbour or an introduction. The bag is looked at
+/// first" (document 02, T-02). What p's own bag introduces is in that bag, so p is not its own holder.
+pub fn held(table: &Table, p: u32) -> Option<Reason> {
     let names_p = |station: &Station| {
         station.left == Some(p)
             || station.right == Some(p)
             || station.bag.contains_key(&Message::Introduction(p))
     };
-    copies(&table[&p]) == 0 && !table.iter().any(|(&other, s)| other != p && names_p(s))
+    if copies(&table[&p]) > 0 {
+        return Some(Reason::OwnBag);
+    }
+    let holders = table.iter().filter(|&(&other, s)| other != p && names_p(s));
+    let smallest = holders.map(|(&other, _)| other).min();
+    smallest.map(Reason::HeldBy)
 }
 
-/// What the step comes to, or the number of its refusal. Of several refusals the one with the smallest number is given.
-pub fn effect(table: &Table, step: Step) -> Result<Effect, u32> {
+/// "NIDEC holds for p when p's bag is empty and no other station has p as a neighbour or as an introduction in its bag."
+pub fn nidec(table: &Table, p: u32) -> bool {
+    held(table, p).is_none()
+}
+
+/// What the step comes to, or its refusal. Of several refusals the one with the smallest number is given.
+pub fn effect(table: &Table, step: Step) -> Result<Effect, Refusal> {
     let p = step.station;
     let Some(before) = table.get(&p) else {
-        return Err(11);
+        return Err(11.into());
     };
     let mut after = before.clone();
     let mut sent = Vec::new();
@@ -41,7 +68,7 @@ pub fn effect(table: &Table, step: Step) -> Result<Effect, u32> {
         Action::Timeout => timeout(p, before, &mut sent),
         Action::Deliver(message) => {
             if !take_one(&mut after, message) {
-                return Err(12);
+                return Err(12.into());
             }
             match message {
                 Message::Introduction(q) => introduction(p, q, &mut after, &mut sent),
@@ -50,17 +77,7 @@ pub fn effect(table: &Table, step: Step) -> Result<Effect, u32> {
             }
         }
         Action::Exit => {
-            if !before.leaving {
-                return Err(13);
-            }
-            if !nidec(table, p) {
-                return Err(14);
-            }
-            // "With both neighbours, left is introduced to right and right to left."
-            if let (Some(left), Some(right)) = (before.left, before.right) {
-                sent.push((right, Message::Introduction(left)));
-                sent.push((left, Message::Introduction(right)));
-            }
+            exit(table, p, &mut sent)?;
             goes = true;
         }
     }
@@ -68,7 +85,7 @@ pub fn effect(table: &Table, step: Step) -> Result<Effect, u32> {
     // they stand before the step decide.
     for (to, _) in &sent {
         if copies(&table[to]) == MOST_MESSAGES {
-            return Err(15);
+            return Err(15.into());
         }
     }
     Ok(Effect {
@@ -100,6 +117,26 @@ fn take_one(station: &mut Station, message: Message) -> bool {
             true
         }
     }
+}
+
+/// "Exit: allowed for a leaving p for which NIDEC holds. With both neighbours, left is introduced to right and right to left." "The run's
+/// refusal 14 carries the same reason" (document 02, T-02).
+fn exit(table: &Table, p: u32, sent: &mut Vec<(u32, Message)>) -> Result<(), Refusal> {
+    let station = &table[&p];
+    if !station.leaving {
+        return Err(13.into());
+    }
+    if let Some(reason) = held(table, p) {
+        return Err(Refusal {
+            number: 14,
+            reason: Some(reason),
+        });
+    }
+    if let (Some(left), Some(right)) = (station.left, station.right) {
+        sent.push((right, Message::Introduction(left)));
+        sent.push((left, Message::Introduction(right)));
+    }
+    Ok(())
 }
 
 /// "Timeout, staying: an introduction of p goes to left and to right, each where there is one." "Timeout, leaving: a

@@ -42,11 +42,20 @@ fn becomes(before: &Table, station: u32, action: Action, after: &Table) {
     assert_eq!(ran.written(), write_table(after));
 }
 
-/// One step is refused and changes nothing.
+/// One step is refused, with no reason, and changes nothing.
 fn refused(before: &Table, station: u32, action: Action, number: u32) {
     let ran = ran(before, &[(station, action)]);
-    assert_eq!((ran.answer, ran.done), (number, 0));
+    assert_eq!((ran.answer, ran.reason, ran.done), (number, None, 0));
     assert_eq!(ran.table.as_ref(), Some(before));
+}
+
+/// An exit is refused with 14 for this reason, and changes nothing; the leave question gives the same one.
+pub fn kept(before: &Table, station: u32, reason: Reason) {
+    let ran = ran(before, &[(station, Exit)]);
+    assert_eq!((ran.answer, ran.reason, ran.done), (14, Some(reason), 0));
+    assert_eq!(ran.table.as_ref(), Some(before));
+    let asked = may_leave(&write_table(before), station);
+    assert_eq!(asked, Ok(Leave::No(reason)));
 }
 
 /// "Station 5 has left 3 and right 9 unless said": with 7 and 12 beside them and these messages for 5, 3, 7 and 9.
@@ -149,7 +158,7 @@ fn situation_10_exit() {
 #[test]
 fn situation_11_exit_with_a_message() {
     let before = five((3, 9), true, &[RemoveLeft], &[], &[], &[]);
-    refused(&before, 5, Exit, 14);
+    kept(&before, 5, Reason::OwnBag);
 }
 
 #[test]
@@ -243,14 +252,10 @@ fn refusals_of_a_step() {
     refused(&before, 5, Deliver(RemoveLeft), 12);
     refused(&before, 5, Exit, 13);
     // A neighbour of another station, then an introduction in another bag.
-    refused(
-        &table(&[(3, 0, 5, false, &[]), (5, 0, 0, true, &[])]),
-        5,
-        Exit,
-        14,
-    );
+    let neighbour = table(&[(3, 0, 5, false, &[]), (5, 0, 0, true, &[])]);
+    kept(&neighbour, 5, Reason::HeldBy(3));
     let introduced = table(&[(3, 0, 0, false, &[Introduction(5)]), (5, 0, 0, true, &[])]);
-    refused(&introduced, 5, Exit, 14);
+    kept(&introduced, 5, Reason::HeldBy(3));
     // The message of a step that finds a full bag stays where it was.
     let before = five(
         (3, 9),
@@ -394,13 +399,13 @@ fn the_questions() {
     assert_eq!(in_line(&line), Ok(true));
     assert_eq!(in_line(&[]), Ok(true));
     assert_eq!(in_line(&[0]), Err(1));
-    assert_eq!(may_leave(&line, 5), Ok(false));
+    assert_eq!(may_leave(&line, 5), Ok(Leave::No(Reason::HeldBy(3))));
     assert_eq!(may_leave(&line, 6), Err(11));
     assert_eq!(may_leave(&line, 0), Err(11));
     let apart = write_table(&table(&[(7, 0, 9, false, &[]), (9, 0, 0, false, &[])]));
     assert_eq!(in_line(&apart), Ok(false));
-    assert_eq!(may_leave(&apart, 7), Ok(true));
-    assert_eq!(may_leave(&apart, 9), Ok(false));
+    assert_eq!(may_leave(&apart, 7), Ok(Leave::Yes));
+    assert_eq!(may_leave(&apart, 9), Ok(Leave::No(Reason::HeldBy(7))));
 }
 
 /// The view of blocks out of order, of the empty table and of one that isn't accepted.
