@@ -1,20 +1,20 @@
 //! The archive through its C interface (include/station_line.h).
 
-use crate::tuned::Ran as TunedRan;
-
-#[repr(C)]
-#[derive(Clone, Copy)]
-struct Ran {
-    answer: u32,
-    done: u32,
-    stations: u32,
-}
+use crate::tuned::Ran;
 
 #[repr(C)]
 #[derive(Clone, Copy)]
 struct Filled {
     answer: u32,
     filled: u32,
+}
+
+#[repr(C)]
+#[derive(Clone, Copy)]
+struct Leave {
+    answer: u32,
+    reason: u32,
+    holder: u32,
 }
 
 #[repr(C)]
@@ -40,7 +40,7 @@ unsafe extern "C" {
         room: *mut u8,
         room_len: usize,
     ) -> Filled;
-    fn station_line_may_leave(table: *const u8, table_len: usize, station: u32) -> Told;
+    fn station_line_may_leave(table: *const u8, table_len: usize, station: u32) -> Leave;
     fn station_line_in_line(table: *const u8, table_len: usize) -> Told;
 }
 
@@ -50,8 +50,8 @@ pub fn check(table: &[u8]) -> u32 {
     unsafe { station_line_check(table.as_ptr(), table.len()) }
 }
 
-pub fn run(table: &[u8], steps: &[u8], room: &mut [u8]) -> TunedRan {
-    let ran = unsafe {
+pub fn run(table: &[u8], steps: &[u8], room: &mut [u8]) -> Ran {
+    unsafe {
         station_line_run(
             table.as_ptr(),
             table.len(),
@@ -60,11 +60,6 @@ pub fn run(table: &[u8], steps: &[u8], room: &mut [u8]) -> TunedRan {
             room.as_mut_ptr(),
             room.len(),
         )
-    };
-    TunedRan {
-        answer: ran.answer,
-        done: ran.done,
-        stations: ran.stations,
     }
 }
 
@@ -81,18 +76,22 @@ pub fn allowed(table: &[u8], room: &mut [u8]) -> Result<usize, u32> {
     }
 }
 
-fn told(told: Told) -> Result<bool, u32> {
-    if told.answer == 0 {
-        Ok(told.yes == 1)
-    } else {
-        Err(told.answer)
+/// The reason and the holder, or the number of a refusal.
+pub fn may_leave(table: &[u8], station: u32) -> Result<(u32, u32), u32> {
+    let leave = unsafe { station_line_may_leave(table.as_ptr(), table.len(), station) };
+    match leave.answer {
+        0 => Ok((leave.reason, leave.holder)),
+        number => {
+            assert_eq!((leave.reason, leave.holder), (0, 0));
+            Err(number)
+        }
     }
 }
 
-pub fn may_leave(table: &[u8], station: u32) -> Result<bool, u32> {
-    told(unsafe { station_line_may_leave(table.as_ptr(), table.len(), station) })
-}
-
 pub fn in_line(table: &[u8]) -> Result<bool, u32> {
-    told(unsafe { station_line_in_line(table.as_ptr(), table.len()) })
+    let told = unsafe { station_line_in_line(table.as_ptr(), table.len()) };
+    match told.answer {
+        0 => Ok(told.yes == 1),
+        number => Err(number),
+    }
 }

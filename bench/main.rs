@@ -13,6 +13,9 @@ mod inputs;
 #[path = "../tests/differential/random.rs"]
 mod random;
 #[allow(dead_code)]
+#[path = "../tests/differential/reasons.rs"]
+mod reasons;
+#[allow(dead_code)]
 #[path = "../tests/differential/steps.rs"]
 mod steps;
 #[allow(dead_code)]
@@ -123,7 +126,10 @@ fn compare() {
         let ran = model::run(&input.table, &input.steps, input.table.len());
         assert_eq!((ran.answer, ran.done), (0, input.steps.len() / model::STEP));
         match input.call {
-            Call::MayLeave => assert_eq!(model::may_leave(&input.table, input.station), Ok(true)),
+            Call::MayLeave => {
+                let leave = model::may_leave(&input.table, input.station);
+                assert_eq!(leave, Ok(model::Leave::Yes));
+            }
             Call::InLine => assert_eq!(model::in_line(&input.table), Ok(true)),
             Call::Allowed => {
                 let messages = input.table.chunks(model::BLOCK).map(|block| block[16]);
@@ -193,10 +199,13 @@ fn any_case(random: &mut Random) -> (Vec<u8>, Vec<u8>, usize, u32) {
 /// All five functions on one input; the number the run answers.
 fn alike(table: &[u8], steps: &[u8], room: usize, station: u32) -> u32 {
     let ran = model::run(table, steps, room);
+    let (reason, holder) = reasons::of_run(ran.reason);
     let expected = tuned::Ran {
         answer: ran.answer,
         done: ran.done as u32,
         stations: ran.stations() as u32,
+        reason,
+        holder,
     };
     let mut after = ran.written();
     after.resize(room, PATTERN);
@@ -209,7 +218,7 @@ fn alike(table: &[u8], steps: &[u8], room: usize, station: u32) -> u32 {
     alike_lists(table, short);
     let check = model::check(table);
     assert_eq!((archive::check(table), tuned::check(table)), (check, check));
-    let leave = model::may_leave(table, station);
+    let leave = model::may_leave(table, station).map(reasons::of_leave);
     assert_eq!(archive::may_leave(table, station), leave);
     assert_eq!(tuned::may_leave(table, station), leave);
     let line = model::in_line(table);
