@@ -1,20 +1,23 @@
 #!/usr/bin/env python3
-"""Writes the seeds of fuzz/corpus: the printed example of document 01, the shorter cases of crates/situations/data/cases.bin, and tables for the
-list of allowed steps. Run it in the repository's root; with one argument it writes them below that folder. An input is four numbers of 32 bits
-(length of the table, of the step list, of the room; the station asked about), the table and the step list."""
+"""Writes the seeds of fuzz/corpus: the printed example of document 01, the shorter cases of crates/situations/data/cases.bin, tables for the
+list of allowed steps, and one for each thing that may hold a station. Run it in the repository's root; with one argument it writes them below
+that folder. An input is four numbers of 32 bits (length of the table, of the step list, of the room; the station asked about), the table and
+the step list."""
 import pathlib
 import struct
 import sys
 
 sys.path.insert(0, "tests")
-from layout import INTRODUCTION, REMOVE_LEFT, REMOVE_RIGHT, block
+from layout import EXIT, INTRODUCTION, REMOVE_LEFT, REMOVE_RIGHT, block, step
 
 MOST = 3000
 corpus = pathlib.Path(sys.argv[1] if len(sys.argv) > 1 else ".", "fuzz/corpus")
 
 
-def seed(name, table, steps, room):
-    station = struct.unpack("<I", table[4:8])[0] if len(table) >= 8 else 5
+def seed(name, table, steps, room, station=None):
+    """The station asked about is the first one stored, unless said."""
+    if station is None:
+        station = struct.unpack("<I", table[4:8])[0] if len(table) >= 8 else 5
     (corpus / name).write_bytes(struct.pack("<IIII", len(table), len(steps), room, station) + table + steps)
 
 
@@ -46,3 +49,18 @@ seed("allowed-short", block(9) + block(5, bag=copies), b"", 6 * 12 - 1)
 seed("allowed-exit", departure(31), b"", 5 * 12)
 seed("allowed-full", departure(32), b"", 3 * 12)
 seed("allowed-none", waiting, b"", 0)
+
+
+def held(name, bag5=(), right3=0, bag6=(), left9=0):
+    """5 would exit among 9, 6 and 3, which may hold it; they are stored by falling number."""
+    table = block(9, left=left9) + block(6, bag=bag6) + block(5, leaving=1, bag=bag5) + block(3, right=right3)
+    seed("leave-" + name, table, step(EXIT, 5), len(table), 5)
+
+
+introduced = [(REMOVE_LEFT, 0), (INTRODUCTION, 5)]
+held("yes")
+held("own-bag", [(REMOVE_LEFT, 0)], 5, introduced, 5)
+held("own-bag-itself", [(INTRODUCTION, 5)])
+held("held-by-neighbour", left9=5)
+held("held-by-introduction", bag6=introduced)
+held("held-by-smallest", (), 5, introduced, 5)

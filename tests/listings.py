@@ -30,8 +30,9 @@ BEFORE = """\
 """
 
 
-def first_line(answer, done=0, stations=0):
-    return "answer %d done %d stations %d\n" % (answer, done, stations)
+def first_line(answer, done=0, stations=0, why=""):
+    """With the reason that the first line ends in at 14 (document 02, T-02)."""
+    return "answer %d done %d stations %d%s\n" % (answer, done, stations, why)
 
 
 # ---- the files of `listing_cases` ----
@@ -51,6 +52,8 @@ TABLES = {
     "crowded": b"".join(block(p, left=p - 1 if p > CROWD[0] else 0, right=p + 1 if p < LAST else 0, leaving=1,
                               bag=[(INTRODUCTION, q) for q in reversed(NAMED)]) for p in reversed(CROWD)),
     "held": b"".join(HELD),
+    "held-by-last": block(LAST, left=5) + block(5, leaving=1) + block(1),
+    "own-bag": HELD[0] + block(5, left=3, right=9, leaving=1, bag=[(INTRODUCTION, 5)]) + HELD[2],
     "bag-of-32": b"".join(HELD[:2]) + block(9, left=5, bag=[(REMOVE_LEFT, 0)] * 32),
     "sole": block(5, leaving=1),
     "one-byte-more": FULL + b"\0",
@@ -79,6 +82,7 @@ STEPS = {
     "refused-13": STEP + step(EXIT, 7),
     "timeout-5": step(TIMEOUT, 5),
     "exit-5": step(EXIT, 5),
+    "exit-last": step(EXIT, LAST),
 }
 MISSING, FOLDER = "missing", "folder"                   # a name without a file, and a directory in the place of one
 
@@ -131,7 +135,11 @@ CASES = [
     ("example", "refused-11", first_line(11, 1, 4) + AFTER),
     ("example", "refused-12", first_line(12, 1, 4) + AFTER),
     ("example", "refused-13", first_line(13, 1, 4) + AFTER),
-    ("held", "exit-5", first_line(14, 0, 3) + HELD_LINES + "\n"),
+    # "the printed first line then ends in `bag`, or `held-by` and the station number" (document 02, T-02)
+    ("held", "exit-5", first_line(14, 0, 3, " held-by 3") + HELD_LINES + "\n"),
+    ("held-by-last", "exit-5", first_line(14, 0, 3, " held-by 999999") + "1 - - stay\n5 - - leave\n999999 5 - stay\n"),
+    ("own-bag", "exit-5", first_line(14, 0, 3, " bag") + HELD_LINES.replace("leave", "leave i5") + "\n"),
+    ("crowded", "exit-last", first_line(14, 0, 64, " bag") + LINE_OF_CROWD),
     ("bag-of-32", "timeout-5", first_line(15, 0, 3) + HELD_LINES + " l" * 32 + "\n"),
     # "the program looks for 16 before all else": before the table's number and the list's
     ("fault-1", MISSING, first_line(16)),

@@ -2,14 +2,15 @@
 """Writes the runs that the program `situations` makes, and what it must print.
 
 Below is a reading of document 01 in plain Python, made from the document before the crates of the machine were opened: the check
-(1 to 7), the run (8 to 15), the two questions and the printed listing. The thirteen situations, the printed example and
-most other cases also say by hand what must be printed, and the script stops if the reading gives another. Run it in the
-repository's root; it writes crates/situations/data/cases.bin, crates/situations/stdout and tests/questions.txt, which
-are kept in the repository (outputs.py: or writes them below another folder).
+(1 to 7), the run (8 to 15), the two questions and the printed listing; and of document 02, T-02: why a station may not leave. The
+thirteen situations, the printed example and most other cases also say by hand what must be printed, and the script stops if the
+reading gives another. Run it in the repository's root; it writes crates/situations/data/cases.bin, crates/situations/stdout and
+tests/questions.txt, which are kept in the repository (outputs.py: or writes them below another folder).
 
 A case in cases.bin is three numbers of 32 bits (length of the table, of the step list, of the room), the table and the
-step list. A line of questions.txt is a case, `leave` and a station or `line`, the number answered and yes (1) or no (0),
-which is 0 at every number but 0; it is asked of the table of the case as it is before the run.
+step list. A line of questions.txt is a case and a question that is asked of its table as it is before the run: `leave`, a
+station, the number answered, the reason and the holder; or `line`, the number answered and yes (1) or no (0), which is 0 at
+every number but 0.
 
 first_steps.py takes the reading and the tables from here; nothing is written then.
 """
@@ -20,7 +21,9 @@ from layout import DELIVER, EXIT, INTRODUCTION, REMOVE_LEFT, REMOVE_RIGHT, TIMEO
 from layout import block, changed, line64, resealed, step
 from outputs import put
 
-# ---- the reading of document 01 ----
+# ---- the reading of documents 01 and 02 ----
+
+NO_REASON, MAY_LEAVE, OWN_BAG, HELD_BY = range(4)       # as include/station_line.h has them
 
 
 class Station:
@@ -95,8 +98,16 @@ def write_table(line):
     return b"".join(block(p, s.left, s.right, int(s.leaving), sorted(s.bag)) for p, s in sorted(line.items()))
 
 
+def leave_reason(line, p):
+    """What the leave question finds (document 02, T-02): a reason, and the smallest holder or 0."""
+    if line[p].bag:
+        return OWN_BAG, 0
+    holders = [q for q, s in line.items() if q != p and p in names(s)]
+    return (HELD_BY, min(holders)) if holders else (MAY_LEAVE, 0)
+
+
 def nidec(line, p):
-    return not line[p].bag and all(p not in names(s) for q, s in line.items() if q != p)
+    return leave_reason(line, p) == (MAY_LEAVE, 0)
 
 
 def after_introduction(p, here, q):
@@ -175,30 +186,32 @@ def do_step(line, record):
 
 
 def run(table, steps, room):
-    """The answer, the steps done and the table written, None where no table is."""
+    """The answer, the steps done, the reason with its holder, and the table written, None where no table is."""
+    nothing = NO_REASON, 0
     fault = check(table)
     if fault:
-        return fault, 0, None
+        return fault, 0, nothing, None
     if len(steps) % 12 != 0 or len(steps) > 4096 * 12:
-        return 8, 0, None
+        return 8, 0, nothing, None
     if room < len(table):
-        return 9, 0, None
+        return 9, 0, nothing, None
     line, done = read_table(table), 0
     for a in range(0, len(steps), 12):
         answer = do_step(line, steps[a:a + 12])
         if answer:
-            return answer, done, write_table(line)
+            held, = struct.unpack_from("<I", steps, a + 4)
+            return answer, done, leave_reason(line, held) if answer == 14 else nothing, write_table(line)
         done += 1
-    return 0, done, write_table(line)
+    return 0, done, nothing, write_table(line)
 
 
 def may_leave(table, p):
-    """The leave question: its number, and yes or no."""
+    """The leave question: its number, the reason and the holder."""
     fault = check(table)
     if fault:
-        return fault, 0
+        return fault, NO_REASON, 0
     line = read_table(table)
-    return (0, int(nidec(line, p))) if p in line else (11, 0)
+    return (0, *leave_reason(line, p)) if p in line else (11, NO_REASON, 0)
 
 
 def in_line(table):
@@ -217,9 +230,11 @@ def word(message):
     return "i%d" % number if kind == INTRODUCTION else "l" if kind == REMOVE_LEFT else "r"
 
 
-def listing(answer, done, table):
+def listing(answer, done, reason, table):
     """The lines of the printed listing; the stations come from the table as it is written."""
-    lines = ["answer %d done %d stations %d" % (answer, done, len(table or b"") // 512)]
+    # "the printed first line then ends in `bag`, or `held-by` and the station number" (document 02, T-02)
+    why = {(NO_REASON, 0): "", (OWN_BAG, 0): " bag"}.get(reason, " held-by %d" % reason[1])
+    lines = ["answer %d done %d stations %d%s" % (answer, done, len(table or b"") // 512, why)]
     for data in blocks_of(table or b""):
         p, s = read_block(data)
         sides = ["%d" % q if q else "-" for q in (s.left, s.right)]
@@ -237,10 +252,11 @@ def case(title, table, steps=b"", room=None, says=None):
     table, steps = b"".join(table), b"".join(steps)
     room = len(table) + 600 if room is None else room
     assert len(table) <= 33280 and len(steps) <= 49164 and room <= 40000, title
-    answer, done, written = run(table, steps, room)
+    answer, done, reason, written = run(table, steps, room)
     assert (written is None) == (1 <= answer <= 9), title
     assert written is None or (check(written) == 0 and len(written) <= len(table)), title
-    lines = listing(answer, done, written)
+    assert (answer == 14) == (reason[0] in (OWN_BAG, HELD_BY)) == (reason[0] != NO_REASON), title
+    lines = listing(answer, done, reason, written)
     assert says is None or lines == says.split(" | "), (title, lines)
     cases.append((title, table, steps, room, answer, lines))
     return written
@@ -304,7 +320,7 @@ case("situation 9", around(leaving=1), [timeout(5)], None,
 case("situation 10", unnamed(), [leave(5)], None,
      "answer 0 done 1 stations 2 | 3 - - stay i9 | 9 - - stay i3")
 case("situation 11", unnamed(bag=[L]), [leave(5)], None,
-     "answer 14 done 0 stations 3 | 3 - - stay | 5 3 9 leave l | 9 - - stay")
+     "answer 14 done 0 stations 3 bag | 3 - - stay | 5 3 9 leave l | 9 - - stay")
 case("situation 12, 32 in the bag of 9", unnamed(leaving=0, bag9=full), [timeout(5)], None,
      "answer 15 done 0 stations 3 | 3 - - stay | 5 3 9 stay | 9 - - stay" + full_words)
 case("situation 12, 31 in the bag of 9", unnamed(leaving=0, bag9=almost), [timeout(5)], None,
@@ -434,15 +450,15 @@ case("13 where NIDEC is false too", around(bag=[L]), [leave(5)], None,
 case("13 before 15", unnamed(leaving=0, bag9=full), [leave(5)], None,
      "answer 13 done 0 stations 3 | 3 - - stay | 5 3 9 stay | 9 - - stay" + full_words)
 case("14, the right of another", unnamed(block(2, right=5)), [leave(5)], None,
-     "answer 14 done 0 stations 4 | 2 - 5 stay | 3 - - stay | 5 3 9 leave | 9 - - stay")
+     "answer 14 done 0 stations 4 held-by 2 | 2 - 5 stay | 3 - - stay | 5 3 9 leave | 9 - - stay")
 case("14, the left of another", unnamed(block(12, left=5)), [leave(5)], None,
-     "answer 14 done 0 stations 4 | 3 - - stay | 5 3 9 leave | 9 - - stay | 12 5 - stay")
+     "answer 14 done 0 stations 4 held-by 12 | 3 - - stay | 5 3 9 leave | 9 - - stay | 12 5 - stay")
 case("14, an introduction in a bag", unnamed(block(12, bag=[i(3), i(5)])), [leave(5)], None,
-     "answer 14 done 0 stations 4 | 3 - - stay | 5 3 9 leave | 9 - - stay | 12 - - stay i3 i5")
+     "answer 14 done 0 stations 4 held-by 12 | 3 - - stay | 5 3 9 leave | 9 - - stay | 12 - - stay i3 i5")
 case("14, its own introduction", [block(5, leaving=1, bag=[i(5)])], [leave(5)], None,
-     "answer 14 done 0 stations 1 | 5 - - leave i5")
+     "answer 14 done 0 stations 1 bag | 5 - - leave i5")
 case("14 before 15", unnamed(bag=[L], bag9=full), [leave(5)], None,
-     "answer 14 done 0 stations 3 | 3 - - stay | 5 3 9 leave l | 9 - - stay" + full_words)
+     "answer 14 done 0 stations 3 bag | 3 - - stay | 5 3 9 leave l | 9 - - stay" + full_words)
 case("an exit, messages elsewhere that name others", unnamed(bag3=[i(9), L, R], bag9=[i(3), i(3)]), [leave(5)], None,
      "answer 0 done 1 stations 2 | 3 - - stay i9 i9 l r | 9 - - stay i3 i3 i3")
 case("15, exit, left full", unnamed(bag3=full), [leave(5)], None,
@@ -501,10 +517,11 @@ case("33 timeouts: the last is refused", unnamed(leaving=0), [timeout(5)] * 33, 
      "answer 15 done 32 stations 3 | 3 - - stay%s | 5 3 9 stay | 9 - - stay%s" % (" i5" * 32, " i5" * 32))
 
 # Refused in the middle: what was done is kept and written, what follows isn't done.
-for answer, record in [(10, bytes(12)), (11, timeout(4)), (12, deliver(5, i(7))), (13, leave(3)), (14, leave(9))]:
+for answer, record, why in [(10, bytes(12), ""), (11, timeout(4), ""), (12, deliver(5, i(7)), ""), (13, leave(3), ""),
+                            (14, leave(9), " held-by 7")]:
     case("%d after three steps" % answer, four[:3] + [block(9, left=5, leaving=1)],
          [deliver(5, i(7)), timeout(3), deliver(7, i(9)), record, timeout(7)], None,
-         "answer %d done 3 stations 4 | 3 - 5 stay | 5 3 7 stay i3 | 7 - 9 stay | 9 5 - leave" % answer)
+         "answer %d done 3 stations 4%s | 3 - 5 stay | 5 3 7 stay i3 | 7 - 9 stay | 9 5 - leave" % (answer, why))
 case("an exit, then a step of the one gone", unnamed(), [leave(5), deliver(9, i(3)), timeout(5), deliver(3, i(9))], None,
      "answer 11 done 2 stations 2 | 3 - - stay i9 | 9 3 - stay")
 case("an exit, then both sides meet", unnamed(), [leave(5), deliver(9, i(3)), deliver(3, i(9))], None,
@@ -513,7 +530,7 @@ case("three leave one after another", [block(5, leaving=1, right=9), block(7, le
      [leave(5), leave(9), leave(7), timeout(7)], None, "answer 11 done 3 stations 0")
 case("a leaving station takes itself out", around(leaving=1),
      [timeout(5), deliver(3, R), deliver(9, L), leave(5), deliver(5, i(3)), deliver(5, i(9)), leave(5)], None,
-     "answer 14 done 3 stations 3 | 3 - - stay | 5 3 9 leave i3 i9 | 9 - - stay")
+     "answer 14 done 3 stations 3 bag | 3 - - stay | 5 3 9 leave i3 i9 | 9 - - stay")
 case("the same, once its bag is empty", around(leaving=1),
      [timeout(5), deliver(3, R), deliver(9, L), deliver(5, i(3)), deliver(5, i(9)), leave(5), deliver(3, i(9)),
       deliver(9, i(3))], None,
@@ -614,6 +631,36 @@ case("the table that the long run leaves", stored(line, Shuffle(10)))
 case("a timeout at each of 64", line64, [timeout(k) for k in range(1, 65)])
 case("a full bag in the middle of 64", line64, [timeout(32)] * 20 + [timeout(30)] * 32 + [timeout(32)] + [timeout(1)])
 
+# What still holds a leaving station (document 02, T-02): each reason, and which of several is given.
+leaver = block(5, leaving=1)
+case("14, the smallest of three that hold it, stored last",
+     [block(12, left=5), block(9, bag=[L, i(5)]), leaver, block(3, right=5)], [leave(5)], None,
+     "answer 14 done 0 stations 4 held-by 3 | 3 - 5 stay | 5 - - leave | 9 - - stay i5 l | 12 5 - stay")
+case("14, an introduction below a neighbour", [block(12, left=5), block(4, leaving=1, bag=[R, i(5), i(12)]), leaver],
+     [leave(5)], None, "answer 14 done 0 stations 3 held-by 4 | 4 - - leave i5 i12 r | 5 - - leave | 12 5 - stay")
+case("14, a neighbour below an introduction", [block(12, bag=[i(5)] * 32), block(7, left=5), leaver], [leave(5)], None,
+     "answer 14 done 0 stations 3 held-by 7 | 5 - - leave | 7 5 - stay | 12 - - stay" + " i5" * 32)
+case("14, its bag before a neighbour", around(leaving=1, bag=[R]), [leave(5)], None,
+     "answer 14 done 0 stations 3 bag | 3 - 5 stay | 5 3 9 leave r | 9 5 - stay")
+case("14, its own introduction before another's", unnamed(bag=[i(5)], bag3=[i(5)]), [leave(5)], None,
+     "answer 14 done 0 stations 3 bag | 3 - - stay i5 | 5 3 9 leave i5 | 9 - - stay")
+case("14, held by the largest", [leaver, block(999999, left=5), block(1, bag=[L, R])], [leave(5)], None,
+     "answer 14 done 0 stations 3 held-by 999999 | 1 - - stay l r | 5 - - leave | 999999 5 - stay")
+case("14, the holder is another one later", around(leaving=1),
+     [timeout(5), deliver(3, R), deliver(5, i(3)), leave(5), deliver(9, L)], None,
+     "answer 14 done 3 stations 3 held-by 9 | 3 - - stay | 5 3 9 leave | 9 5 - stay l")
+case("14, the holder has passed the introduction on", [block(7, left=3, bag=[i(2)]), block(3), block(2, leaving=1)],
+     [deliver(7, i(2)), leave(2)], None, "answer 14 done 1 stations 3 held-by 3 | 2 - - leave | 3 - - stay i2 | 7 3 - stay")
+case("14, the holder has taken it as a neighbour", [block(3, bag=[i(5)]), leaver], [deliver(3, i(5)), leave(5)], None,
+     "answer 14 done 1 stations 2 held-by 3 | 3 - 5 stay | 5 - - leave")
+several = [block(1, right=9, bag=[i(8), i(2)]), block(2, left=1, right=5, bag=[L, R, L]), block(5, left=2, bag=[i(9)]),
+           block(8, left=5, right=9), block(9, leaving=1), block(999999, left=9)]
+same_output("14, five hold it", several, [timeout(9), leave(9)], (11, 12))
+bags = {k: [L] * 31 + [i(40) if k == 1 else R] for k in range(64, 0, -1)}
+case("14, the last place of the last of 63 full bags",
+     [block(40, leaving=1)] + [block(k, bag=bags[k]) for k in bags if k != 40], [leave(40)])
+assert cases[-1][5][0] == "answer 14 done 0 stations 64 held-by 1"
+
 assert {answer for _, _, _, _, answer, _ in cases} == set(range(16))
 
 # The check of this reading also gives each table of the program `checks` the number that tables.py names for it.
@@ -628,7 +675,7 @@ if __name__ == "__main__":
     put("crates/situations/stdout",
         "".join("\n".join(["case %d" % k] + lines + ["rest kept"]) + "\n" for k, (_, _, _, _, _, lines) in enumerate(cases, 1)))
 
-    yes = {"leave": 0, "line": 0}
+    found, yes = [0, 0, 0, 0], 0
     asked, questions = [], []
     for k, (_, table, _, _, _, _) in enumerate(cases, 1):
         if table in asked:
@@ -636,12 +683,12 @@ if __name__ == "__main__":
         asked.append(table)
         present = sorted(read_table(table)) if check(table) == 0 else [5]
         for p in present + [q for q in (0, 6, 1000000, 4294967295) if q not in present]:
-            number, answer = may_leave(table, p)
-            questions.append("%d leave %d %d %d\n" % (k, p, number, answer))
-            yes["leave"] += answer
+            number, reason, holder = may_leave(table, p)
+            questions.append("%d leave %d %d %d %d\n" % (k, p, number, reason, holder))
+            found[reason] += 1
         number, answer = in_line(table)
         questions.append("%d line %d %d\n" % (k, number, answer))
-        yes["line"] += answer
+        yes += answer
     put("tests/questions.txt", "".join(questions))
     print("%d cases, %d exits in the long run, %d stations after it" % (len(cases), exits, len(line)))
-    print("questions of %d tables, yes to leave %d, to line %d" % (len(asked), yes["leave"], yes["line"]))
+    print("questions of %d tables, yes to line %d; leave refused %d, yes %d, own bag %d, held %d" % (len(asked), yes, *found))
