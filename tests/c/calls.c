@@ -39,6 +39,7 @@ void expect_run(struct bytes table, struct bytes steps, size_t room_len, struct 
         expect(ran.answer == wanted.answer, "the answer of the run");
         expect(ran.done == wanted.done, "the steps done");
         expect(ran.stations == wanted.stations, "the stations now");
+        expect(ran.reason == wanted.reason && ran.holder == wanted.holder, "the reason of the run, and the holder");
         expect_room(room_len, place, written);
     }
 }
@@ -59,10 +60,11 @@ void expect_check(struct bytes table, uint32_t answer) {
         expect(station_line_check(lend_bytes(&tables, table.at, table.len, place), table.len) == answer, "the number of the check");
 }
 
-void expect_leave(struct bytes table, uint32_t station, uint32_t answer, uint32_t yes) {
+void expect_leave(struct bytes table, uint32_t station, struct station_line_leave wanted) {
     for (enum place place = BEHIND; place <= places(table.len == 0); place++) {
-        struct station_line_told told = station_line_may_leave(lend_bytes(&tables, table.at, table.len, place), table.len, station);
-        expect(told.answer == answer && told.yes == yes, "the leave question");
+        struct station_line_leave leave = station_line_may_leave(lend_bytes(&tables, table.at, table.len, place), table.len, station);
+        expect(leave.answer == wanted.answer, "the answer of the leave question");
+        expect(leave.reason == wanted.reason && leave.holder == wanted.holder, "the reason of the leave question, and the holder");
     }
 }
 

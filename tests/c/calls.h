@@ -25,7 +25,7 @@ void expect_run(struct bytes table, struct bytes steps, size_t room_len, struct 
 void expect_allowed(struct bytes table, size_t room_len, struct station_line_filled wanted, struct bytes written);
 
 void expect_check(struct bytes table, uint32_t answer);
-void expect_leave(struct bytes table, uint32_t station, uint32_t answer, uint32_t yes);
+void expect_leave(struct bytes table, uint32_t station, struct station_line_leave wanted);
 void expect_line(struct bytes table, uint32_t answer, uint32_t yes);
 void expect_view(struct bytes table, size_t position, struct station_line_viewed wanted);
 

@@ -1,11 +1,11 @@
-/* 1 to 9: no counts, and the whole room as it was. */
+/* 1 to 9: no counts, no reason, and the whole room as it was. */
 #include "calls.h"
 #include "cases.h"
 #include "tries.h"
 
 static void refuse(const char *what, uint32_t number, struct bytes table, struct bytes steps, size_t room_len) {
     begin_case(what);
-    expect_run(table, steps, room_len, (struct station_line_ran){number, 0, 0}, no_bytes);
+    expect_run(table, steps, room_len, (struct station_line_ran){number, 0, 0, 0, 0}, no_bytes);
 }
 
 /* 1 to 7 are told by every function. */
@@ -15,7 +15,7 @@ static void refuse_table(const char *what, uint32_t number, const uint8_t *at, s
     expect_allowed(table, room_len, (struct station_line_filled){number, 0}, no_bytes);
     expect_allowed(table, 0, (struct station_line_filled){number, 0}, no_bytes);
     expect_check(table, number);
-    expect_leave(table, 5, number, 0);
+    expect_leave(table, 5, (struct station_line_leave){number, 0, 0});
     expect_line(table, number, 0);
     expect_view(table, 0, (struct station_line_viewed){number, 0, 0, 0});
 }

@@ -1,8 +1,7 @@
 /* The questions of tests/questions.txt. cases.bin: for each case the lengths of table, step list and room, then table and step list.
- * questions.txt: the number of a case, `leave` and a station or `line`, the number and yes. */
+ * questions.txt: the number of a case, then `leave`, a station, the number, the reason and the holder; or `line`, the number and yes. */
 #include <stdio.h>
 #include <stdlib.h>
-#include <string.h>
 
 #include "calls.h"
 #include "cases.h"
@@ -37,26 +36,37 @@ static struct bytes find_table(const uint8_t *cases, size_t len, unsigned wanted
     exit(2);
 }
 
+/* A line of questions.txt; `leave` or `line` says which of the fields it has. */
+struct question {
+    unsigned number, station, answer, reason, holder, yes;
+    int leave;
+};
+
+static int read_question(const char *line, struct question *q) {
+    *q = (struct question){0};
+    q->leave = sscanf(line, "%u leave %u %u %u %u", &q->number, &q->station, &q->answer, &q->reason, &q->holder) == 5;
+    return q->leave || sscanf(line, "%u line %u %u", &q->number, &q->answer, &q->yes) == 3;
+}
+
 /* One line; the case that it asks about is returned. */
 static unsigned ask(const char *line, unsigned before, const uint8_t *cases, size_t len) {
-    char word[16], what[64];
-    unsigned number, station = 0, answer, yes;
-    int leave = sscanf(line, "%u %15s %u %u %u", &number, word, &station, &answer, &yes) == 5 && strcmp(word, "leave") == 0;
-    if (!leave && (sscanf(line, "%u %15s %u %u", &number, word, &answer, &yes) != 4 || strcmp(word, "line") != 0)) {
+    char what[64];
+    struct question q;
+    if (!read_question(line, &q)) {
         begin_case(line);
         expect(0, "the line is a question");
         return 0;
     }
-    if (number != before) {
-        (void)snprintf(what, sizeof what, "stored questions about the table of case %u", number);
+    if (q.number != before) {
+        (void)snprintf(what, sizeof what, "stored questions about the table of case %u", q.number);
         begin_case(what);
     }
-    struct bytes table = find_table(cases, len, number);
-    if (leave)
-        expect_leave(table, station, answer, yes);
+    struct bytes table = find_table(cases, len, q.number);
+    if (q.leave)
+        expect_leave(table, q.station, (struct station_line_leave){q.answer, q.reason, q.holder});
     else
-        expect_line(table, answer, yes);
-    return number;
+        expect_line(table, q.answer, q.yes);
+    return q.number;
 }
 
 void try_stored(const char *cases_path, const char *questions_path) {

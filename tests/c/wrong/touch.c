@@ -3,7 +3,8 @@
  *
  * The way is said by the environment's WRONG, four words: the function (check, run, allowed, leave, line, view), what it was handed
  * (table, list, room), read or write, and where: before it, behind it, or inside (a byte of a table or a list, or of a room past the
- * table or the list written). "ends" is a program that dies after its last line. Without WRONG nothing is wrong. */
+ * table or the list written). "stale" and run or leave is one that gives the reason of an earlier call again where there is none to give.
+ * "ends" is a program that dies after its last line. Without WRONG nothing is wrong. */
 #include <stdio.h>
 #include <stdlib.h>
 #include <string.h>
@@ -14,7 +15,7 @@ uint32_t __real_station_line_check(const uint8_t *table, size_t table_len);
 struct station_line_ran __real_station_line_run(const uint8_t *table, size_t table_len, const uint8_t *steps, size_t steps_len,
                                                 uint8_t *room, size_t room_len);
 struct station_line_filled __real_station_line_allowed(const uint8_t *table, size_t table_len, uint8_t *room, size_t room_len);
-struct station_line_told __real_station_line_may_leave(const uint8_t *table, size_t table_len, uint32_t station);
+struct station_line_leave __real_station_line_may_leave(const uint8_t *table, size_t table_len, uint32_t station);
 struct station_line_told __real_station_line_in_line(const uint8_t *table, size_t table_len);
 struct station_line_viewed __real_station_line_view(const uint8_t *table, size_t table_len, size_t position);
 
@@ -22,7 +23,7 @@ uint32_t __wrap_station_line_check(const uint8_t *table, size_t table_len);
 struct station_line_ran __wrap_station_line_run(const uint8_t *table, size_t table_len, const uint8_t *steps, size_t steps_len,
                                                 uint8_t *room, size_t room_len);
 struct station_line_filled __wrap_station_line_allowed(const uint8_t *table, size_t table_len, uint8_t *room, size_t room_len);
-struct station_line_told __wrap_station_line_may_leave(const uint8_t *table, size_t table_len, uint32_t station);
+struct station_line_leave __wrap_station_line_may_leave(const uint8_t *table, size_t table_len, uint32_t station);
 struct station_line_told __wrap_station_line_in_line(const uint8_t *table, size_t table_len);
 struct station_line_viewed __wrap_station_line_view(const uint8_t *table, size_t table_len, size_t position);
 
@@ -49,6 +50,20 @@ static void touch(const char *function, const char *what, const uint8_t *at, siz
         (void)*byte;
 }
 
+/* Puts the last reason and holder in the place of none, where WRONG says so. */
+static void keep_reason(const char *function, uint32_t *reason, uint32_t *holder) {
+    static uint32_t last_reason, last_holder;
+    const char *wrong = getenv("WRONG");
+    if (!wrong || strncmp(wrong, "stale ", 6) != 0 || strcmp(wrong + 6, function) != 0)
+        return;
+    if (*reason != STATION_LINE_NO_REASON) {
+        last_reason = *reason;
+        last_holder = *holder;
+    }
+    *reason = last_reason;
+    *holder = last_holder;
+}
+
 __attribute__((constructor)) static void start(void) {
     const char *wrong = getenv("WRONG");
     if (wrong && strcmp(wrong, "ends") == 0)
@@ -67,6 +82,7 @@ struct station_line_ran __wrap_station_line_run(const uint8_t *table, size_t tab
     touch("run", "table", table, table_len, 0);
     touch("run", "list", steps, steps_len, 0);
     touch("run", "room", room, room_len, (size_t)512 * ran.stations);
+    keep_reason("run", &ran.reason, &ran.holder);
     return ran;
 }
 
@@ -77,10 +93,11 @@ struct station_line_filled __wrap_station_line_allowed(const uint8_t *table, siz
     return filled;
 }
 
-struct station_line_told __wrap_station_line_may_leave(const uint8_t *table, size_t table_len, uint32_t station) {
-    struct station_line_told told = __real_station_line_may_leave(table, table_len, station);
+struct station_line_leave __wrap_station_line_may_leave(const uint8_t *table, size_t table_len, uint32_t station) {
+    struct station_line_leave leave = __real_station_line_may_leave(table, table_len, station);
     touch("leave", "table", table, table_len, 0);
-    return told;
+    keep_reason("leave", &leave.reason, &leave.holder);
+    return leave;
 }
 
 struct station_line_told __wrap_station_line_in_line(const uint8_t *table, size_t table_len) {
