@@ -20,8 +20,9 @@ enum {
     LARGEST = 999999
 };
 
-/* How often the runs of the inputs, and the lists of allowed steps in the inputs' rooms, gave each answer. */
-extern uint64_t answers_met[16], lists_met[10];
+/* How often the runs of the inputs, and the lists of allowed steps in the inputs' rooms, gave each answer; and how often the leave question
+ * about the station of an accepted input, and a run that stopped with 14, gave each reason. */
+extern uint64_t answers_met[16], lists_met[10], reasons_met[4], stops_met[4];
 
 struct cut {
     const uint8_t *table, *steps;

@@ -9,6 +9,8 @@
  *  - the blocks in the opposite order give the same answers and bytes;
  *  - a list cut in two, the second part run over what the first one wrote, gives what the whole list gives;
  *  - an exit of the station asked about is refused by 13, 14 or 11 as the leave question says;
+ *  - the leave question finds the own bag first and then the smallest holder, read here from the blocks in any order, and gives no reason
+ *    beside a refusal; a run gives one at 14 alone, which is the question's own, asked of what the run wrote;
  *  - the line question agrees with the written table, read here;
  *  - the view gives a block at its place, and past the last one the end.
  *
@@ -34,7 +36,7 @@ __attribute__((section("__libfuzzer_extra_counters")))
 #endif
 static uint8_t counters[COUNTERS];
 
-uint64_t answers_met[16], lists_met[10];
+uint64_t answers_met[16], lists_met[10], reasons_met[4], stops_met[4];
 
 static void tell(uint32_t kind, uint32_t a, uint32_t b, uint32_t c)
 {
@@ -67,6 +69,49 @@ struct result {
     uint8_t bytes[MOST_TABLE];
 };
 
+static const uint8_t *block_of(const uint8_t *table, size_t table_len, uint32_t station)
+{
+    for (size_t at = 0; at + BLOCK <= table_len; at += BLOCK) {
+        if (get32(table + at + 4) == station) {
+            return table + at;
+        }
+    }
+    return NULL;
+}
+
+/* Whether a block of an accepted table has the station as a neighbour or as an introduction: no other place of a bag has a number. */
+static int names(const uint8_t *block, uint32_t station)
+{
+    int found = get32(block + 8) == station || get32(block + 12) == station;
+    for (uint32_t k = 0; k < get16(block + 16); k++) {
+        found = found || get32(block + 24 + 8 * (size_t)k) == station;
+    }
+    return found;
+}
+
+/* The leave question about a station of an accepted table, with what the blocks say of it. */
+static struct station_line_leave leave_of(const uint8_t *table, size_t table_len, uint32_t station, enum place place)
+{
+    struct station_line_leave leave = station_line_may_leave(lend_bytes(&tables, table, table_len, place), table_len, station);
+    const uint8_t *own = block_of(table, table_len, station);
+    uint32_t holder = 0;
+    for (size_t at = 0; at < table_len; at += BLOCK) {
+        uint32_t other = get32(table + at + 4);
+        if (other != station && names(table + at, station) && (holder == 0 || other < holder)) {
+            holder = other;
+        }
+    }
+    int in_bag = own != NULL && get16(own + 16) > 0;
+    uint32_t reason = own == NULL ? STATION_LINE_NO_REASON
+                      : in_bag    ? STATION_LINE_OWN_BAG
+                      : holder    ? STATION_LINE_HELD_BY
+                                  : STATION_LINE_MAY_LEAVE;
+    law(leave.answer == (own == NULL ? 11 : 0), "the leave question finds the station");
+    law(leave.reason == reason, "the leave question looks at the own bag, then for holders");
+    law(leave.holder == (reason == STATION_LINE_HELD_BY ? holder : 0), "the leave question gives the smallest holder");
+    return leave;
+}
+
 /* One run in a painted room, with the laws about the room and the counts. */
 static void run(struct result *r, const uint8_t *table, size_t table_len, const uint8_t *steps, size_t steps_len, size_t room_len,
                 enum place place)
@@ -84,6 +129,7 @@ static void run(struct result *r, const uint8_t *table, size_t table_len, const 
         law(steps_len % STEP == 0 && r->ran.done <= steps_len / STEP, "no more steps than the list has");
         law((r->ran.answer == 0) == (r->ran.done == steps_len / STEP), "all steps are done exactly at 0");
     }
+    law(r->ran.answer == 14 || (r->ran.reason == 0 && r->ran.holder == 0), "no reason but at 14");
     law(rest_untouched(&rooms, room_len, place, written), "nothing but the written table is touched");
     memcpy(r->bytes, room, written);
 }
@@ -91,6 +137,7 @@ static void run(struct result *r, const uint8_t *table, size_t table_len, const 
 static void same(const struct result *a, const struct result *b, const char *what)
 {
     law(a->ran.answer == b->ran.answer && a->ran.done == b->ran.done && a->ran.stations == b->ran.stations, what);
+    law(a->ran.reason == b->ran.reason && a->ran.holder == b->ran.holder, what);
     law(memcmp(a->bytes, b->bytes, (size_t)a->ran.stations * BLOCK) == 0, what);
 }
 
@@ -133,23 +180,10 @@ static int rises_in_line(const uint8_t *table, size_t blocks, const char *what)
     return in_line;
 }
 
-static const uint8_t *block_of(const uint8_t *table, size_t table_len, uint32_t station)
+/* The view, on the table as it was handed over: its blocks one by one, and the end near and far away. */
+static void walk(const struct cut *c, uint32_t fault, enum place place)
 {
-    for (size_t at = 0; at + BLOCK <= table_len; at += BLOCK) {
-        if (get32(table + at + 4) == station) {
-            return table + at;
-        }
-    }
-    return NULL;
-}
-
-/* The questions and the view, on the table as it was handed over. */
-static void ask(const struct cut *c, uint32_t fault, enum place place)
-{
-    static struct result plain, exited;
     const uint8_t *table = lend_bytes(&tables, c->table, c->table_len, place);
-    struct station_line_told leave = station_line_may_leave(table, c->table_len, c->station);
-    struct station_line_told line = station_line_in_line(table, c->table_len);
     size_t blocks = fault == 0 ? c->table_len / BLOCK : 0;
     for (size_t p = 0; p <= blocks + 1; p += 1 + blocks / 8) {
         struct station_line_viewed v = station_line_view(table, c->table_len, p);
@@ -159,34 +193,52 @@ static void ask(const struct cut *c, uint32_t fault, enum place place)
     }
     struct station_line_viewed far = station_line_view(table, c->table_len, SIZE_MAX - c->station);
     law(far.answer == fault && far.has_block == 0 && far.offset == 0 && far.next == SIZE_MAX - c->station, "the end comes again");
+}
+
+/* An exit of the station asked about, beside the leave question's answer. */
+static void exit_asked(const struct cut *c, struct station_line_leave leave, enum place place)
+{
+    static struct result exited;
+    const uint8_t *block = block_of(c->table, c->table_len, c->station);
+    size_t blocks = c->table_len / BLOCK;
+    uint8_t step[STEP];
+    put_step(step, 3, 0, c->station, 0);
+    run(&exited, c->table, c->table_len, step, STEP, c->table_len, place);
+    uint32_t got = exited.ran.answer;
+    if (block == NULL) {
+        law(got == (1 <= c->station && c->station <= LARGEST ? 11 : 10), "an exit of an absent station");
+    } else if (get16(block + 2) == 0) {
+        law(got == 13, "an exit of a staying station");
+    } else if (leave.reason != STATION_LINE_MAY_LEAVE) {
+        law(got == 14, "an exit that the leave question denies");
+        law(exited.ran.reason == leave.reason && exited.ran.holder == leave.holder, "it is denied for the same reason");
+    } else {
+        law(got == 0 || got == 15, "an exit that the leave question allows");
+        law(exited.ran.stations == blocks - (got == 0), "an exit takes one block away");
+    }
+    tell(2, got, size_class(blocks), exited.ran.reason);
+}
+
+/* The two questions, on the table as it was handed over. */
+static void ask(const struct cut *c, uint32_t fault, enum place place)
+{
+    static struct result plain;
+    const uint8_t *table = lend_bytes(&tables, c->table, c->table_len, place);
+    struct station_line_told line = station_line_in_line(table, c->table_len);
     if (fault != 0) {
-        law(leave.answer == fault && leave.yes == 0, "the leave question gives the check's number");
+        struct station_line_leave leave = station_line_may_leave(table, c->table_len, c->station);
+        law(leave.answer == fault && leave.reason == 0 && leave.holder == 0, "the leave question gives the check's number alone");
         law(line.answer == fault && line.yes == 0, "the line question gives the check's number");
         return;
     }
+    size_t blocks = c->table_len / BLOCK;
     run(&plain, c->table, c->table_len, NULL, 0, c->table_len, place);
     law(plain.ran.answer == 0 && plain.ran.stations == blocks, "no steps, no change");
     law(line.answer == 0 && line.yes == (uint32_t)rises_in_line(plain.bytes, blocks, "blocks rise"), "the line question");
-    const uint8_t *block = block_of(c->table, c->table_len, c->station);
-    tell(1, leave.answer, leave.yes, line.yes);
-    law(leave.answer == (block == NULL ? 11 : 0) && leave.yes <= (uint32_t)(block != NULL), "the leave question finds the station");
-    if (1 <= c->station && c->station <= LARGEST) {
-        uint8_t step[STEP] = {3};
-        memcpy(step + 4, (uint8_t[]){(uint8_t)c->station, (uint8_t)(c->station >> 8), (uint8_t)(c->station >> 16), 0}, 4);
-        run(&exited, c->table, c->table_len, step, STEP, c->table_len, place);
-        uint32_t got = exited.ran.answer;
-        if (block == NULL) {
-            law(got == 11, "an exit of an absent station");
-        } else if (get16(block + 2) == 0) {
-            law(got == 13, "an exit of a staying station");
-        } else if (leave.yes == 0) {
-            law(got == 14, "an exit that the leave question denies");
-        } else {
-            law(got == 0 || got == 15, "an exit that the leave question allows");
-            law(exited.ran.stations == blocks - (got == 0), "an exit takes one block away");
-        }
-        tell(2, got, size_class(blocks), 0);
-    }
+    struct station_line_leave leave = leave_of(c->table, c->table_len, c->station, place);
+    reasons_met[leave.reason]++;
+    tell(1, leave.answer, leave.reason, line.yes);
+    exit_asked(c, leave, place);
 }
 
 /* Whether the first of two steps comes before the second in the list: by station, action, kind and number. */
@@ -322,6 +374,20 @@ static void laws_of_answer(const struct cut *c, uint32_t fault, uint32_t answer)
     }
 }
 
+/* A run that has stopped with 14 gives what the leave question finds in the table that it wrote, for the station of the refused step. */
+static void laws_of_reason(const struct cut *c, const struct result *whole, enum place place)
+{
+    if (whole->ran.answer != 14) {
+        return;
+    }
+    uint32_t station = get32(c->steps + (size_t)whole->ran.done * STEP + 4);
+    struct station_line_leave leave = leave_of(whole->bytes, (size_t)whole->ran.stations * BLOCK, station, place);
+    law(leave.answer == 0 && leave.reason != STATION_LINE_MAY_LEAVE, "a 14 has a reason");
+    law(whole->ran.reason == leave.reason && whole->ran.holder == leave.holder, "the reason of a 14 is the leave question's");
+    stops_met[leave.reason]++;
+    tell(8, leave.reason, size_class(whole->ran.stations), size_class(whole->ran.done));
+}
+
 /* The blocks in the opposite order, against the opposite pages. */
 static void turn_blocks(const struct cut *c, const struct result *whole, enum place place)
 {
@@ -385,11 +451,13 @@ int LLVMFuzzerTestOneInput(const uint8_t *data, size_t size)
     law(fault <= 7, "the check's number is one of 0 to 7");
     law((fault == 1) == (c.table_len % BLOCK != 0), "1 tells of the length");
     tell(0, fault, size_class(c.table_len / BLOCK), 0);
+    walk(&c, fault, place);
     ask(&c, fault, place);
     list_allowed(&c, fault, place);
     run(&whole, c.table, c.table_len, c.steps, c.steps_len, c.room_len, place);
     answers_met[whole.ran.answer]++;
     laws_of_answer(&c, fault, whole.ran.answer);
+    laws_of_reason(&c, &whole, place);
     tell_run(&whole, &c);
     turn_blocks(&c, &whole, place);
     if (1 <= whole.ran.answer && whole.ran.answer <= 9) {
