@@ -4,15 +4,15 @@
 
 #include "commands.h"
 #include "files.h"
+#include "listing.h"
 #include "open_table.h"
 #include "say.h"
-#include "station_line.h"
 #include "text.h"
 
-/* No is an answer other than yes, so that a script which asks may go on at 0 alone. */
-static int answer(struct station_line_told told) {
-    (void)printf("%s\n", told.yes != 0 ? "yes" : "no");
-    return told.yes != 0 ? DONE : OTHER;
+/* Whatever is not yes is another answer, so that a script which asks may go on at 0 alone. */
+static int answer(const char *text, bool yes) {
+    (void)puts(text);
+    return yes ? DONE : OTHER;
 }
 
 int leave_command(const struct arguments *arguments) {
@@ -25,13 +25,13 @@ int leave_command(const struct arguments *arguments) {
     int status = open_table(path, table, &len);
     if (status != DONE)
         return status;
-    struct station_line_told told = station_line_may_leave(table, len, station);
-    if (told.answer == STATION_LINE_DONE)
-        return answer(told);
-    if (told.answer == STATION_LINE_ABSENT)
-        say_refusal_with(name_of(path), told.answer, "station %s", number);
+    struct station_line_leave leave = station_line_may_leave(table, len, station);
+    if (leave.answer == STATION_LINE_DONE)
+        return answer(leave_text(leave.reason, leave.holder).text, leave.reason == STATION_LINE_MAY_LEAVE);
+    if (leave.answer == STATION_LINE_ABSENT)
+        say_refusal_with(name_of(path), leave.answer, "station %s", number);
     else
-        say_refusal(name_of(path), told.answer);
+        say_refusal(name_of(path), leave.answer);
     return OTHER;
 }
 
@@ -44,7 +44,7 @@ int line_command(const struct arguments *arguments) {
         return status;
     struct station_line_told told = station_line_in_line(table, len);
     if (told.answer == STATION_LINE_DONE)
-        return answer(told);
+        return answer(told.yes != 0 ? "yes" : "no", told.yes != 0);
     say_refusal(name_of(path), told.answer);
     return OTHER;
 }

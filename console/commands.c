@@ -21,7 +21,8 @@ const struct command commands[] = {
      .summary = "run a step list, print the listing",
      .details = "Runs the step list over the table and prints the listing: the answer, the\n"
                 "steps done, the stations left, and a line for each of them. The run stops at\n"
-                "the first refused step.\n"
+                "the first refused step. At 14 the first line ends in what holds the station, as\n"
+                "'leave' prints it.\n"
                 "\n"
                 "  -o, --output NEW    write the new table to NEW, at answer 0 and at 10 to 15,\n"
                 "                      where the run stopped\n"
@@ -45,10 +46,10 @@ const struct command commands[] = {
      .words = {"TABLE", "NUMBER"},
      .does = leave_command,
      .usage = "leave TABLE NUMBER",
-     .summary = "may the station leave? yes or no",
-     .details = "Prints yes where the station's bag is empty and no other station has it as a\n"
-                "neighbour or as an introduction in its bag, else no. The exit status is 0 for\n"
-                "yes and 1 for no.\n"},
+     .summary = "may the station leave? yes, or why not",
+     .details = "Prints yes where the station may leave; bag where its own bag is not empty; else\n"
+                "held-by and the smallest station that has it as a neighbour or as an\n"
+                "introduction in its bag. The exit status is 0 for yes and 1 for the others.\n"},
     {.name = "line",
      .words = {"TABLE"},
      .does = line_command,

@@ -48,8 +48,20 @@ struct step_text malformed_text(struct station_line_step step) {
     return text;
 }
 
+struct leave_text leave_text(uint32_t reason, uint32_t holder) {
+    struct leave_text text = {""};
+    if (reason == STATION_LINE_HELD_BY)
+        (void)snprintf(text.text, sizeof text.text, "held-by %u", (unsigned)holder);
+    else if (reason == STATION_LINE_MAY_LEAVE || reason == STATION_LINE_OWN_BAG)
+        (void)snprintf(text.text, sizeof text.text, "%s", reason == STATION_LINE_MAY_LEAVE ? "yes" : "bag");
+    return text;
+}
+
 void print_answer(FILE *out, struct station_line_ran ran) {
-    (void)fprintf(out, "answer %u done %u stations %u\n", (unsigned)ran.answer, (unsigned)ran.done, (unsigned)ran.stations);
+    (void)fprintf(out, "answer %u done %u stations %u", (unsigned)ran.answer, (unsigned)ran.done, (unsigned)ran.stations);
+    if (ran.reason != STATION_LINE_NO_REASON)
+        (void)fprintf(out, " %s", leave_text(ran.reason, ran.holder).text);
+    (void)fputc('\n', out);
 }
 
 static void print_block(FILE *out, const uint8_t *bytes) {

@@ -26,7 +26,14 @@ struct step_text {
 struct step_text step_text(struct station_line_step step);
 struct step_text malformed_text(struct station_line_step step);
 
-/* The first line of the listing. */
+/* What the leave question finds, and what the first line of the listing ends in at 14 (document 02, T-02): `yes`, `bag`, or
+ * `held-by` and the holder; empty where there is no reason. */
+struct leave_text {
+    char text[24];
+};
+struct leave_text leave_text(uint32_t reason, uint32_t holder);
+
+/* The first line of the listing, which ends in the reason where the run has one. */
 void print_answer(FILE *out, struct station_line_ran ran);
 
 /* A line for each station that the walk has left. */

@@ -19,7 +19,7 @@ struct input {
 
 /* 16: the answer first, and then why. */
 static int refuse_file(const char *path, struct reason why) {
-    print_answer(stdout, (struct station_line_ran){UNREADABLE, 0, 0});
+    print_answer(stdout, (struct station_line_ran){.answer = UNREADABLE});
     say_unreadable(name_of(path), why);
     return TROUBLE;
 }

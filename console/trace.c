@@ -1,7 +1,5 @@
 #include "trace.h"
 
-#include <string.h>
-
 #include "effects.h"
 #include "listing.h"
 #include "missing.h"
@@ -37,8 +35,9 @@ static bool trace_step(FILE *out, size_t place, const uint8_t *bytes, const stru
 
 void print_trace(FILE *out, const uint8_t *table, size_t table_len, const uint8_t *steps, size_t steps_len) {
     struct state states[2];
-    memcpy(states[0].table, table, table_len);
-    take_snapshot(&states[0].snapshot, table, table_len / STATION_LINE_BLOCK_BYTES);
+    /* In written order, so that who holds a station is told by rising number and the first is the reason of the listing. */
+    struct station_line_ran none = station_line_run(table, table_len, NULL, 0, states[0].table, table_len);
+    take_snapshot(&states[0].snapshot, states[0].table, none.stations);
     for (size_t k = 0; k < steps_len / STATION_LINE_STEP_BYTES; k++)
         if (!trace_step(out, k + 1, steps + STATION_LINE_STEP_BYTES * k, &states[k % 2], &states[(k + 1) % 2]))
             return;

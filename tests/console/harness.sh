@@ -26,8 +26,13 @@ fake 'echo 0' 'printf "\0more"'
 holds 'test: more behind a byte 0' refuses says 0 $'0\n' '' check
 . "$root/tests/console/stored_cases.sh"
 fake 'echo "station-line: $2: 11: station not present" >&2' 'exit 1'
-holds 'test: a question with its number' stored_question 1 leave 6 11 0
-holds 'test: a question with another number' refuses stored_question 1 leave 6 12 0
+holds 'test: a question with its number' stored_question 1 leave 6 11 0 0
+holds 'test: a question with another number' refuses stored_question 1 leave 6 12 0 0
+fake 'echo held-by 3' 'exit 1'
+holds 'test: a question with its holder' stored_question 1 leave 5 0 3 3
+holds 'test: a question with another holder' refuses stored_question 1 leave 5 0 3 9
+holds 'test: a question with another reason' refuses stored_question 1 leave 5 0 2 0
+holds 'test: a question without a reason' refuses stored_question 1 leave 5 0 0 0
 program=$real
 holds 'test: no question at all' refuses each_question /dev/null
 

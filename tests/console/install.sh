@@ -16,8 +16,8 @@ fi
 functions=$(sed -n 's/.*[ *]\(station_line_[a-z_0-9]*\)(.*/\1/p' "$root/include/station_line.h" | sort -u)
 exported=$(nm -D --defined-only "$lib/libstation_line.so" | awk '{ print $3 }' | sort)
 holds 'the shared library exports what the header declares' [ "$exported" = "$functions" ]
-holds 'the shared library has its soname' [ "$(readelf -d "$lib/libstation_line.so" | sed -n 's/.*soname: \[\(.*\)\]$/\1/p')" = libstation_line.so.1 ]
-holds 'the example in Python' eval '"$python" "$root/examples/line.py" "$lib/libstation_line.so" > python.txt && same python.txt <(cat "$root/crates/listing/stdout"; echo "may 9 leave? no")'
+holds 'the shared library has its soname' [ "$(readelf -d "$lib/libstation_line.so" | sed -n 's/.*soname: \[\(.*\)\]$/\1/p')" = libstation_line.so.2 ]
+holds 'the example in Python' eval '"$python" "$root/examples/line.py" "$lib/libstation_line.so" > python.txt && same python.txt <(cat "$root/crates/listing/stdout"; echo "may 9 leave? held-by 7")'
 
 into=$work/into
 makes() {
@@ -29,8 +29,8 @@ include/station_line.h
 include/station_line_layout.h
 lib64/libstation_line.a
 lib64/libstation_line.so
-lib64/libstation_line.so.1
-lib64/libstation_line.so.1.2
+lib64/libstation_line.so.2
+lib64/libstation_line.so.2.0
 lib64/pkgconfig/station-line.pc
 share/bash-completion/completions/station-line
 share/man/man1/station-line.1

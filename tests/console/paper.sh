@@ -37,7 +37,7 @@ try 'both from pipes' 0 "$listing" '' run <(cat table.bin) <(cat steps.bin)
 input=table.bin try 'check from a pipe' 0 $'0\n' '' check -
 input=table.bin try 'view from a pipe' 0 "$viewed" '' view -
 input=table.bin try 'dump from a pipe' 0 "$example" '' dump table -
-input=table.bin try 'leave from a pipe' 1 $'no\n' '' leave - 7
+input=table.bin try 'leave from a pipe' 1 $'held-by 5\n' '' leave - 7
 input=table.bin try 'line from a pipe' 1 $'no\n' '' line -
 
 # "A block of station 5, staying, left none, right 9, one introduction of 7 ... the check word is 65,511 (bytes E7 FF)."
@@ -98,7 +98,7 @@ situation '9: leaving, timeout' 'timeout 5' 0 'answer 0 done 1 stations 3' '3 - 
     -- '3 - - stay r' '5 3 9 leave' '9 - - stay l'
 situation '10: leaving, exit' 'exit 5' 0 'answer 0 done 1 stations 2' '3 - - stay' '5 3 9 leave' '9 - - stay' \
     -- '3 - - stay i9' '9 - - stay i3'
-situation '11: the same, a remove-left in the bag' 'exit 5' 1 'answer 14 done 0 stations 3' '3 - - stay' '5 3 9 leave l' '9 - - stay' \
+situation '11: the same, a remove-left in the bag' 'exit 5' 1 'answer 14 done 0 stations 3 bag' '3 - - stay' '5 3 9 leave l' '9 - - stay' \
     -- '3 - - stay' '5 3 9 leave l' '9 - - stay'
 full='l l l l l l l l l l l l l l l l l l l l l l l l l l l l l l l'
 situation '12: the bag of 9 holds 32' 'timeout 5' 1 'answer 15 done 0 stations 3' '3 - - stay' '5 3 9 stay' "9 - - stay $full l" \
@@ -109,6 +109,24 @@ situation '13: a sole leaving station exits' 'exit 5' 0 'answer 0 done 1 station
 try '13: with -o, an empty table' 0 $'answer 0 done 1 stations 0\n' '' run before.bin step.bin -o gone.bin
 holds '13: no byte is written' cmp gone.bin none.bin
 try 'the empty table and the empty list' 0 $'answer 0 done 0 stations 0\n' '' run none.bin none.bin
+
+# 14 with each reason (document 02, T-02): the own bag first, then the smallest holder, whatever the stored order.
+situation '14: held by the smallest of three' 'exit 5' 1 'answer 14 done 0 stations 4 held-by 3' '9 5 - stay' '7 - - stay l i5' '5 - - leave' '3 - 5 stay' \
+    -- '3 - 5 stay' '5 - - leave' '7 - - stay i5 l' '9 5 - stay'
+situation '14: held by an introduction' 'exit 5' 1 'answer 14 done 0 stations 3 held-by 7' '9 7 - stay' '7 - 9 stay i9 i5' '5 - 9 leave' \
+    -- '5 - 9 leave' '7 - 9 stay i5 i9' '9 7 - stay'
+situation '14: held by the largest' 'exit 5' 1 'answer 14 done 0 stations 2 held-by 999999' '5 - - leave' '999999 5 - stay' \
+    -- '5 - - leave' '999999 5 - stay'
+situation '14: its own bag, though others hold it' 'exit 5' 1 'answer 14 done 0 stations 3 bag' '3 - 5 stay' '5 3 9 leave r' '9 5 - stay' \
+    -- '3 - 5 stay' '5 3 9 leave r' '9 5 - stay'
+situation '14: its own introduction' 'exit 5' 1 'answer 14 done 0 stations 1 bag' '5 - - leave i5' -- '5 - - leave i5'
+printf 'timeout 5\ndeliver 3 r\ndeliver 5 i3\nexit 5\ndeliver 9 l\n' > late.txt
+table late.bin '3 - 5 stay' '5 3 9 leave' '9 5 - stay'
+try 'assemble an exit that comes too early' 0 '' '' assemble steps late.txt -o late_steps.bin
+say 14 late_steps.bin 'step 4: exit 5'
+late=$'answer 14 done 3 stations 3 held-by 9\n3 - - stay\n5 3 9 leave\n9 5 - stay l\n'
+try '14 after some steps: who holds it now' 1 "$late" "$said" run late.bin late_steps.bin -o later.bin
+try 'the leave question about the new table says the same' 1 $'held-by 9\n' '' leave later.bin 5
 
 # 10 to 15 stop a run after the steps done; the table after those is written and the status is 1.
 printf 'timeout 5\nexit 5\ntimeout 5\n' > stop.txt

@@ -1,9 +1,22 @@
 # The two questions, the view and the check.
 table asked.bin '3 - 5 stay' '5 3 9 stay i7' '7 - - stay' '9 5 - stay'
 group 'no station of the example may leave'
-for station in 3 5 7 9; do
-    try "station $station" 1 $'no\n' '' leave asked.bin "$station"
+try 'station 5: its bag, though 3 and 9 hold it' 1 $'bag\n' '' leave asked.bin 5
+for station in 3 7 9; do
+    try "station $station" 1 $'held-by 5\n' '' leave asked.bin "$station"
 done
+end
+group 'who holds a station: the smallest, whatever the order of the blocks'
+table held.bin '999999 40 - stay' '50 40 - stay' '40 - - stay' '30 - 40 leave' '20 - - stay i40' '9 - - stay l r'
+try 'of four' 1 $'held-by 20\n' '' leave held.bin 40
+table held.bin '999999 40 - stay' '40 - - stay' '9 - - stay l r'
+try 'of one, the largest' 1 $'held-by 999999\n' '' leave held.bin 40
+table held.bin '40 - - leave' '1 - - leave l r i1 i40'
+try 'of one, the smallest, which is leaving too' 1 $'held-by 1\n' '' leave held.bin 40
+table held.bin '40 - - leave i40'
+try 'its own introduction is in its bag' 1 $'bag\n' '' leave held.bin 40
+table held.bin '40 9 - leave' '9 - - stay l r'
+try 'nobody: a remove names nobody' 0 $'yes\n' '' leave held.bin 40
 end
 group '11: any number without a block is absent'
 for station in 0 6 999999 1000000 4294967295 4294967296 4294967301 99999999999999999999999999; do
@@ -18,7 +31,7 @@ try 'the view of it' 0 $'block 1 at 0: 9 5 - stay\nblock 2 at 512: 3 - 5 leave\n
 table free.bin '7 - 9 stay' '9 - - leave i9'
 try 'yes, without a leaving mark' 0 $'yes\n' '' leave free.bin 7
 try 'a number with a zero before it' 0 $'yes\n' '' leave free.bin 07
-try 'no, with one' 1 $'no\n' '' leave free.bin 9
+try 'its bag, with one' 1 $'bag\n' '' leave free.bin 9
 
 : > empty
 try 'check: the empty table' 0 $'0\n' '' check empty

@@ -26,15 +26,19 @@ stored_run() {
 circle() {
     "$program" dump "$1" "$2" > dumped.txt && "$program" assemble "$1" dumped.txt -o again.bin && same again.bin "$2"
 }
-# stored_question CASE QUESTION [STATION] NUMBER YES: the answer and its number
+# stored_question CASE leave STATION NUMBER REASON HOLDER, stored_question CASE line NUMBER YES: the answer, or its number
 stored_question() {
-    local k=$1 question=$2 station=()
-    shift 2
-    [ "$question" = line ] || { station=("$1"); shift; }
-    case $1$2 in
-    00) says 1 $'no\n' '' "$question" "$stored/run.$k.table" "${station[@]}" ;;
-    01) says 0 $'yes\n' '' "$question" "$stored/run.$k.table" "${station[@]}" ;;
-    *) ends 1 "$question" "$stored/run.$k.table" "${station[@]}" && [ -z "$out" ] && [[ $err == "station-line: $stored/run.$k.table: $1: ${words[$1]}"* ]] ;;
+    local asked=("$2" "$stored/run.$1.table") number=$3 answer="$2 $4"
+    if [ "$2" = leave ]; then
+        asked+=("$3") number=$4 answer="leave $5"
+    fi
+    case $number:$answer in
+    '0:leave 1' | '0:line 1') says 0 $'yes\n' '' "${asked[@]}" ;;
+    '0:leave 2') says 1 $'bag\n' '' "${asked[@]}" ;;
+    '0:leave 3') says 1 "held-by $6"$'\n' '' "${asked[@]}" ;;
+    '0:line 0') says 1 $'no\n' '' "${asked[@]}" ;;
+    0:*) return 1 ;;
+    *) ends 1 "${asked[@]}" && [ -z "$out" ] && [[ $err == "station-line: ${asked[1]}: $number: ${words[$number]}"* ]] ;;
     esac
 }
 # stored_check CASE: the number, with the status that goes with it

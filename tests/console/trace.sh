@@ -36,6 +36,8 @@ traced '12, empty' "${here[@]}" -- 'deliver 9 l=refused with 12, message not in 
 traced '13' "${here[@]}" -- 'exit 3=refused with 13, exit by a staying station: 3 has no leaving mark'
 traced '14' "${here[@]}" \
     -- 'exit 5=refused with 14, exit, leaving, NIDEC false: the bag of 5 holds 2 i7, l, 3 r, 3 has it as right, 7 has i5 in its bag, 9 has it as left'
+traced '14, by rising number in any stored order' '9 5 - stay' '7 - - stay i5' '5 - - leave' '3 - 5 stay' \
+    -- 'exit 5=refused with 14, exit, leaving, NIDEC false: 3 has it as right, 7 has i5 in its bag, 9 has it as left'
 traced '14, held by itself' '5 - - leave i5' -- 'exit 5=refused with 14, exit, leaving, NIDEC false: the bag of 5 holds i5'
 traced '15' '3 - - stay' '5 3 9 stay' "9 - - stay $full l" \
     -- 'timeout 5=refused with 15, a bag that must receive holds 32: the bag of 9 is full and must receive i5'

@@ -9,11 +9,12 @@ try 'line: yes' 0 $'yes\n' '' line straight.bin
 try 'allowed: nothing' 0 '' '' allowed empty
 end
 group 'the exit status: 1 for any other answer, no among them'
-try 'leave: no' 1 $'no\n' '' leave table.bin 3
+try 'leave: held' 1 $'held-by 5\n' '' leave table.bin 3
+try 'leave: bag' 1 $'bag\n' '' leave table.bin 5
 try 'line: no' 1 $'no\n' '' line table.bin
 say 11 table.bin 'station 6'
 try 'leave: absent' 1 '' "$said" leave table.bin 6
-holds 'a script goes no further at no' eval '! { "$program" leave table.bin 3 > /dev/null && echo may go; } | grep -q may'
+holds 'a script goes no further where a station is held' eval '! { "$program" leave table.bin 3 > /dev/null && echo may go; } | grep -q may'
 end
 
 # Wrong use: status 2, nothing on standard output, one line that names the bad word and points to the help.
