@@ -2,7 +2,7 @@
 """The station line's library from Python, by ctypes alone: line.py [LIBRARY]
 
 Makes the table of the README's example and its one step, runs it, prints the listing, and asks whether station 9 may leave. LIBRARY is
-the shared library, libstation_line.so.1 if not given; docs/FORMAT.md has the bytes.
+the shared library, libstation_line.so.2 if not given; docs/FORMAT.md has the bytes.
 """
 import ctypes
 import struct
@@ -11,14 +11,15 @@ import sys
 BLOCK, STEP = 512, 12
 KINDS = {"i": 1, "l": 2, "r": 3}
 TIMEOUT, DELIVER, EXIT = 1, 2, 3
+MAY_LEAVE, OWN_BAG, HELD_BY = 1, 2, 3
 
 
 class Ran(ctypes.Structure):
-    _fields_ = [("answer", ctypes.c_uint32), ("done", ctypes.c_uint32), ("stations", ctypes.c_uint32)]
+    _fields_ = [(name, ctypes.c_uint32) for name in ("answer", "done", "stations", "reason", "holder")]
 
 
-class Told(ctypes.Structure):
-    _fields_ = [("answer", ctypes.c_uint32), ("yes", ctypes.c_uint32)]
+class Leave(ctypes.Structure):
+    _fields_ = [(name, ctypes.c_uint32) for name in ("answer", "reason", "holder")]
 
 
 def load(name):
@@ -27,7 +28,7 @@ def load(name):
     library.station_line_version.restype = octets
     library.station_line_words.argtypes, library.station_line_words.restype = [number], octets
     library.station_line_run.argtypes, library.station_line_run.restype = [octets, size, octets, size, octets, size], Ran
-    library.station_line_may_leave.argtypes, library.station_line_may_leave.restype = [octets, size, number], Told
+    library.station_line_may_leave.argtypes, library.station_line_may_leave.restype = [octets, size, number], Leave
     return library
 
 
@@ -53,19 +54,23 @@ def line(bytes_):
     return " ".join(words)
 
 
+def why(found):
+    """The words for what the leave question found, or for why a run stopped with 14; none where there is no reason."""
+    return {MAY_LEAVE: ["yes"], OWN_BAG: ["bag"], HELD_BY: ["held-by", found.holder]}.get(found.reason, [])
+
+
 def main():
-    library = load(sys.argv[1] if len(sys.argv) > 1 else "libstation_line.so.1")
+    library = load(sys.argv[1] if len(sys.argv) > 1 else "libstation_line.so.2")
     table = block(3, right=5) + block(5, left=3, right=9, messages=["i7"]) + block(7) + block(9, left=5)
     steps = step(DELIVER, 5, "i7")
     room = ctypes.create_string_buffer(len(table))
     ran = library.station_line_run(table, len(table), steps, len(steps), room, len(room))
-    print("answer", ran.answer, "done", ran.done, "stations", ran.stations)
+    print("answer", ran.answer, "done", ran.done, "stations", ran.stations, *why(ran))
     if ran.answer != 0:
         sys.exit(library.station_line_words(ran.answer).decode())
     for k in range(ran.stations):
         print(line(room.raw[BLOCK * k:BLOCK * (k + 1)]))
-    told = library.station_line_may_leave(room.raw, BLOCK * ran.stations, 9)
-    print("may 9 leave?", "yes" if told.yes else "no")
+    print("may 9 leave?", *why(library.station_line_may_leave(room.raw, BLOCK * ran.stations, 9)))
 
 
 main()
