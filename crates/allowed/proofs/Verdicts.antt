@@ -76,9 +76,6 @@ module _ {t index counts : List ℕ} {i : ℕ} (s : Standing t index counts i) w
   unfolding withBagInOrder
   standing-named e f = f ∙ sym (ap number (line-at t index (s .clean) (s .listed) i (s .within) e))
 
-  pub standing-counted : getD counts (slotIn (getD index i 0)) 0 ≡ length ((nodeAt t i) .bag)
-  standing-counted = rw (s .counted, ← same-slot) (between .consistent .tallied i in-table ∙ ap (λ (l : Line). length ((getD l i nobody) .bag)) same-line)
-
 -- The step judged.
 module _ {t index counts : List ℕ} {i : ℕ} {l : Leave} {found : Bool} {a : Action} (k : Asked t index counts i l found a) where
   abbrev s : Standing t index counts i

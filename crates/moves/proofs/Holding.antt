@@ -64,7 +64,7 @@ module _ {p : ℕ} {line : Line} {j : ℕ} (so-far : NoneTo p line j) where
   none-holds h = sym (so-far .is ∙ rw (drop-of-length-le line h) (omega arith))
 
 -- a bag is empty where its count is 0
-pub empty-counted : (b : List Message) (c : ℕ) → c ≡ length b → isEmpty b ≡ eqb c 0
+empty-counted : (b : List Message) (c : ℕ) → c ≡ length b → isEmpty b ≡ eqb c 0
 unfolding isEmpty
 empty-counted [] c e = rw e
 empty-counted (m ∷ b) c e = sym (ne-eqb c 0 (λ (z : c ≡ 0). omega arith))
