@@ -121,19 +121,16 @@ holds-in-order p s = rw (sort-any precedes (same (introduction p)) (s .bag))
 
 -- None of the first j stations of an accepted table holds p.
 module _ (t index : List ℕ) (clean : faultOf t ≡ 0) (listed : index ≡ indexOf t) {p j : ℕ} (so-far : NoneTo p (lineOf t) j) where
-  size : length (lineOf t) ≡ length index
-  size = line-long t index clean listed
-
   -- the block of the station at place j is asked
   module _ (h : j < length index) {b : List ℕ} (read : b ≡ blockAt t (slotIn (getD index j 0))) {x : Bool} (tells : x ≡ isHolder p (nodeOf b)) where
     holds-here : isHolder p (getD (lineOf t) j nobody) ≡ x
     holds-here = ap (isHolder p) (line-at t index clean listed j h read) ∙ holds-in-order p (nodeOf b) ∙ sym tells
 
     pub block-passed : x ≡ false → NoneTo p (lineOf t) (j + 1)
-    block-passed e = none-next so-far (omega (arith, size)) (holds-here ∙ e)
+    block-passed e = none-next so-far (omega (arith, line-long t index clean listed)) (holds-here ∙ e)
 
     pub block-holds : x ≡ true → j ≡ firstAt (isHolder p) (lineOf t)
-    block-holds e = holder-found so-far (omega (arith, size)) (holds-here ∙ e)
+    block-holds e = holder-found so-far (omega (arith, line-long t index clean listed)) (holds-here ∙ e)
 
   pub no-block-holds : length index ≤ j → j ≡ firstAt (isHolder p) (lineOf t)
-  no-block-holds h = none-holds so-far (omega (arith, size))
+  no-block-holds h = none-holds so-far (omega (arith, line-long t index clean listed))

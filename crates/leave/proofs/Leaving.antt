@@ -53,19 +53,16 @@ module _ (t index : List ℕ) (clean : faultOf t ≡ 0) (listed : index ≡ inde
 
   -- Station q is looked up.
   module _ (q : ℕ) {i : ℕ} (at : i ≡ firstAt (eqb q) (numbersIn index)) where
-    size : length (lineOf t) ≡ length index
-    size = line-long t index clean listed
-
     among : i ≡ firstAt (eqb q) (numbers (lineOf t))
     among = at ∙ ap (firstAt (eqb q)) (numbers-listed t index clean listed)
 
     -- it stands nowhere
     pub leave-absent : length index ≤ i → Refused 11 ≡ leaveAt (lineOf t) (find q (lineOf t))
-    leave-absent h = rw (find-nowhere q (lineOf t) (λ m. omega (arith, found-member (numbers (lineOf t)) q .1 m, length-map (lineOf t) number, among, size, h)))
+    leave-absent h = rw (find-nowhere q (lineOf t) (λ m. omega (arith, found-member (numbers (lineOf t)) q .1 m, length-map (lineOf t) number, among, line-long t index clean listed, h)))
 
     -- it stands at place i
     pub leave-there : i < length index → {l : Leave} → l ≡ leaveOf (lineOf t) (place (lineOf t) i) → Told l ≡ leaveAt (lineOf t) (find q (lineOf t))
     leave-there h e =
         let l = length-map (lineOf t) number in
-        let named : number (place (lineOf t) i) ≡ q = sym (List·getD-map number (lineOf t) i nobody) ∙ rw among (found-there (numbers (lineOf t)) q (omega (arith, among, size))) in
-        rw (find-at q (lineOf t) i nobody (table-accepted t clean .2 .rising) (omega (arith, size)) named, e)
+        let named : number (place (lineOf t) i) ≡ q = sym (List·getD-map number (lineOf t) i nobody) ∙ rw among (found-there (numbers (lineOf t)) q (omega (arith, among, line-long t index clean listed))) in
+        rw (find-at q (lineOf t) i nobody (table-accepted t clean .2 .rising) (omega (arith, line-long t index clean listed)) named, e)
