@@ -111,7 +111,7 @@ module _ {t : List ℕ} {r : Inspected} (found : Inspects t r) where
   allowed-refused h room = let e = found .fault-is in rw (← e, ne-eqb (r .fault) 0 h)
 
   pub allowed-filled : r .fault ≡ 0 → {l m : List ℕ} {end : ℕ} → Wrote l 0 (listBytes (allowedSteps t)) end m
-      → (room : List ℕ) {f : Filling} → f ≡ filledWith (end / 12) (take end m) room → f ≡ allowedIn t room
+      → (room : List ℕ) {f : Filling ℕ} → f ≡ filledWith (end / 12) (take end m) room → f ≡ allowedIn t room
   unfolding allowedIn
   allowed-filled h {l} {m} {end} a room e =
       let bytes : take end m ≡ listBytes (allowedSteps t) =

@@ -1,10 +1,11 @@
-// A lent room that is filled with bytes: the answer of every function that does so, and the last part of its work (document 01, "The
-// numbers a crew may see").
+// A lent room that is filled: the answer of every function that does so, and the last part of its work where the room is one of bytes
+// (document 01, "The numbers a crew may see").
 use words::put_word;
 ghost use mathlib.Core.Path.{_≡_};
 ghost use Rattle.filling.specs.Filled.{filledWith, filledAs};
 
-// The number, and the amount filled.
+// The number, and the amount filled; beside any number but 0 it is 0. So it is handed over in C.
+#[repr(C)]
 pub struct Filled {
     pub answer: u32,
     pub filled: u32,

@@ -15,7 +15,7 @@ use Rattle.filling.specs.declared.Filled.{Filled}
 use Rattle.filling.specs.Filled.{Filling, filledWith, filledAs, refusedWith}
 use Rattle.next_steps.specs.Allowed.{allowedSteps, allowedIn}
 
-abbrev Within : Filling → Type 0
+abbrev Within : Filling ℕ → Type 0
 Within f = 12 * f .filled ≤ length (f .room)
 
 filled-within : (l : List Step) (room : List ℕ) → Within (filledWith (length l) (listBytes l) room)

@@ -9,6 +9,7 @@ use Rattle.table.specs.Blocks.{lineOf}
 use Rattle.questions.specs.Told.{asked}
 use Rattle.leave.specs.declared.LeaveTold.{LeaveTold}
 use Rattle.leave.specs.declared.LeaveTold.the-variants.{Refused, Told}
+use Rattle.leave.specs.declared.records.LeaveRecord.{LeaveRecord}
 
 -- the number, the reason and the holder of each case: "At 0 a question returns yes or no as well", with what holds the station; beside a
 -- refusal there is neither
@@ -23,6 +24,10 @@ toldReason (Told l) = leaveNumber l
 abbrev pub toldHolder : LeaveTold → ℕ
 toldHolder (Refused n) = 0
 toldHolder (Told l) = leaveHolder l
+
+-- the three as one record
+unfoldable pub leaveAs : LeaveTold → LeaveRecord
+leaveAs t = record { answer = toldNumber t; reason = toldReason t; holder = toldHolder t }
 
 -- "The leave question now returns yes, or `own bag not empty`, or the smallest station"; "the leave question then looks for the station (11)"
 abbrev pub leaveAt : Line → Answer Node → LeaveTold

@@ -1,6 +1,7 @@
 // The question whether a station may leave, and what holds it (document 01, "What the engine holds" and "The numbers a crew may see"; document
 // 02, T-02).
 pub mod holders;
+pub mod records;
 
 use holders::first_holder;
 use index::lookup;

@@ -76,3 +76,15 @@ module _ {A : Type 0} (f : A → Bool) where
           → cond b l (x ∷ removeFirst f l) ≡ x ∷ l
       go true r h = absurd (omega arith)
       go false r h = ap (λ (t : List A). x ∷ t) (r (omega arith))
+
+-- tests that agree have one first place
+pub first-same : {A : Type 0} (f g : A → Bool) → ((x : A) → f x ≡ g x) → (l : List A) → firstAt f l ≡ firstAt g l
+unfolding firstAt
+first-same f g h [] = refl
+first-same f g h (x ∷ l) = rw (h x, first-same f g h l)
+
+-- where none passes it is the length
+pub first-nowhere : {A : Type 0} (f : A → Bool) → ((x : A) → f x ≡ false) → (l : List A) → length l ≡ firstAt f l
+unfolding firstAt
+first-nowhere f h [] = refl
+first-nowhere f h (x ∷ l) = rw (h x) (ap suc (first-nowhere f h l))

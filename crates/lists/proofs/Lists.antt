@@ -91,6 +91,11 @@ unfolding any
 any-append f [] b = refl
 any-append f (x ∷ a) b = ap (λ (t : Bool). f x || t) (any-append f a b) ∙ sym (or-assoc (f x) (any f a) (any f b))
 
+pub count-append : {A : Type 0} (f : A → Bool) (a b : List A) → count f (a ++ b) ≡ count f a + count f b
+unfolding count
+count-append f [] b = omega arith
+count-append f (x ∷ a) b = omega (arith, count-append f a b)
+
 pub all-append : {A : Type 0} (f : A → Bool) (a b : List A) → all f (a ++ b) ≡ (all f a && all f b)
 unfolding all
 all-append f [] b = refl

@@ -27,7 +27,7 @@ same-filling : (l : List Step) (room room′ : List ℕ) → length room ≡ len
 unfolding filledWith
 same-filling l room room′ h = rw h (go (leb (length (listBytes l)) (length room′)))
   where
-    filled : List ℕ → Filling
+    filled : List ℕ → Filling ℕ
     filled r = record { answer = 0; filled = length l; room = listBytes l ++ drop (length (listBytes l)) r }
 
     begins : (r : List ℕ) → take (12 * length l) (listBytes l ++ drop (length (listBytes l)) r) ≡ listBytes l

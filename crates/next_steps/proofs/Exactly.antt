@@ -35,7 +35,7 @@ module _ (t lent : List ℕ) where
   abbrev rest : List ℕ
   rest = drop (length bytes) lent
 
-  abbrev whole : Filling
+  abbrev whole : Filling ℕ
   whole = record { answer = 0; filled = length (allowedSteps t); room = bytes ++ rest }
 
   filled-is : (allowedIn t lent) .answer ≡ 0 → (faultOf t ≡ 0) × (allowedIn t lent ≡ whole)

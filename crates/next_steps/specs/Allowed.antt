@@ -48,5 +48,5 @@ unfoldable pub allowedSteps : List ℕ → List Step
 allowedSteps table = allowedOf (lineOf table)
 
 -- "It refuses with 1 to 7, and with 9 exactly when the room is shorter than the list"; the amount filled counts steps
-unfoldable pub allowedIn : List ℕ → List ℕ → Filling
+unfoldable pub allowedIn : List ℕ → List ℕ → Filling ℕ
 allowedIn table room = unlessFault (faultOf table) (filledWith (length (allowedSteps table)) (listBytes (allowedSteps table)) room) room

@@ -21,7 +21,7 @@ use Rattle.filling.specs.Filled.{Filling}
 use Rattle.next_steps.specs.Allowed.{allowedSteps, allowedIn}
 
 -- the 12 bytes x are a record of the list that was filled
-pub record Stands (x : List ℕ) (f : Filling) : Type 0 where
+pub record Stands (x : List ℕ) (f : Filling ℕ) : Type 0 where
   pub place : ℕ
   pub within : place < f .filled
   pub is : take 12 (drop (12 * place) (f .room)) ≡ x
@@ -55,7 +55,7 @@ abbrev pub ListedFew : Type 0
 ListedFew = (t : List ℕ) → faultOf t ≡ 0 → length (allowedSteps t) ≤ 2112
 
 -- 4. Two receivers agree: alike tables give, for equal room lengths, the same answer, amount and list.
-pub record SameFilling (x y : Filling) : Type 0 where
+pub record SameFilling (x y : Filling ℕ) : Type 0 where
   pub answer : x .answer ≡ y .answer
   pub filled : x .filled ≡ y .filled
   pub written : take (12 * x .filled) (x .room) ≡ take (12 * y .filled) (y .room)

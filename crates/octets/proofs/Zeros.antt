@@ -24,7 +24,7 @@ pass-zeros [] h = refl
 pass-zeros (x ∷ l) h = rw (eqb-true x 0 (and-left (eqb x 0) (allZero l) h), ← pass-zeros l (and-right (eqb x 0) (allZero l) h))
 
 -- what is left of equal elements
-take-replicate : {A : Type 0} (k n : ℕ) (a : A) → k ≤ n → take k (replicate n a) ≡ replicate k a
+pub take-replicate : {A : Type 0} (k n : ℕ) (a : A) → k ≤ n → take k (replicate n a) ≡ replicate k a
 take-replicate zero zero a h = refl
 take-replicate zero (suc n) a h = refl
 take-replicate (suc k) zero a h = absurd (omega arith)

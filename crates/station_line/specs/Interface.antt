@@ -4,11 +4,8 @@ use Rattle.line.specs.Answer.{carriedNumber, carriedHolder, answerNumber, answe
 use Rattle.finishing.specs.Ended.{Outcome}
 use Rattle.questions.specs.declared.Told.{Told}
 use Rattle.questions.specs.Told.{toldNumber, toldYes}
-use Rattle.leave.specs.declared.LeaveTold.{LeaveTold}
-use Rattle.leave.specs.Leave as leave
 use Rattle.view.specs.declared.Looked.{Looked}
 use Rattle.station_line.specs.declared.StationLineRan.{StationLineRan}
-use Rattle.station_line.specs.declared.StationLineLeave.{StationLineLeave}
 use Rattle.station_line.specs.declared.StationLineTold.{StationLineTold}
 use Rattle.station_line.specs.declared.StationLineViewed.{StationLineViewed}
 
@@ -21,10 +18,6 @@ ranAs o = record {
   reason = carriedNumber (answerReason (o .answer));
   holder = carriedHolder (answerReason (o .answer));
 }
-
--- the number, the reason and the holder of the leave question's answer
-unfoldable pub leaveAs : LeaveTold → StationLineLeave
-leaveAs t = record { answer = leave.toldNumber t; reason = leave.toldReason t; holder = leave.toldHolder t }
 
 -- the number and the value of a question's answer
 unfoldable pub toldAs : Told → StationLineTold

@@ -2,9 +2,9 @@
 // numbers), with the check and the view beside them. Each function hands its call on and repeats the equality of what it calls. A slice
 // is a pointer and a length in C; the view has offsets in the place of references.
 use engine::run;
-use leave::LeaveTold;
 use leave::may_leave;
-use line::Leave;
+use leave::records::LeaveRecord;
+use leave::records::leave_as;
 use questions::Told;
 use questions::in_line;
 use table::check;
@@ -13,10 +13,10 @@ use view::look;
 ghost use mathlib.Core.Path.{_≡_};
 ghost use Rattle.table.specs.Fault.{faultOf};
 ghost use Rattle.engine.specs.Ran.{outcome};
-ghost use Rattle.leave.specs.Leave.{mayLeave};
+ghost use Rattle.leave.specs.Leave.{leaveAs, mayLeave};
 ghost use Rattle.questions.specs.Told.{isInLine};
 ghost use Rattle.view.specs.View.{viewed};
-ghost use Rattle.station_line.specs.Interface.{ranAs, leaveAs, toldAs, viewedAs};
+ghost use Rattle.station_line.specs.Interface.{ranAs, toldAs, viewedAs};
 
 // The number of a run, the steps done and the stations now, and at 14 what holds the station: 2 its own bag, 3 the station `holder`; beside
 // any other number both are 0.
@@ -25,15 +25,6 @@ pub struct StationLineRan {
     pub answer: u32,
     pub done: u32,
     pub stations: u32,
-    pub reason: u32,
-    pub holder: u32,
-}
-
-// The number of the leave question, and at 0 whether the station may leave: 1 yes, 2 its own bag, 3 the station `holder`; beside any other
-// number both are 0.
-#[repr(C)]
-pub struct StationLineLeave {
-    pub answer: u32,
     pub reason: u32,
     pub holder: u32,
 }
@@ -88,33 +79,8 @@ fn told_as(told: Told) -> StationLineTold
     }
 }
 
-// The number, the reason and the holder of the leave question's answer.
-fn leave_as(told: LeaveTold) -> StationLineLeave
-    ensures { λ r. ⌜ r ≡ leaveAs told ⌝ }
-{
-    match told {
-        LeaveTold::Refused(number) => StationLineLeave {
-            answer: number,
-            reason: 0,
-            holder: 0,
-        },
-        LeaveTold::Told(leave) => match leave {
-            Leave::May => StationLineLeave {
-                answer: 0,
-                reason: 1,
-                holder: 0,
-            },
-            Leave::MayNot(why) => StationLineLeave {
-                answer: 0,
-                reason: why.number(),
-                holder: why.holder(),
-            },
-        },
-    }
-}
-
 #[no_mangle]
-pub extern "C" fn station_line_may_leave(table: &[u8], station: u32) -> StationLineLeave
+pub extern "C" fn station_line_may_leave(table: &[u8], station: u32) -> LeaveRecord
     ensures { λ r. ⌜ r ≡ leaveAs (mayLeave (now (table .entry)) station) ⌝ }
 {
     leave_as(may_leave(table, station))

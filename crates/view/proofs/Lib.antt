@@ -2,4 +2,3 @@
 pub mod Sight
 pub mod Walks
 pub mod Apart
-pub mod While

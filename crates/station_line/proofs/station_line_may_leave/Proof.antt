@@ -1,7 +1,7 @@
 -- The answer of the question, as numbers.
 use mathlib.Core.Path.{ap, _∙_}
 use borrow.Author.Needs.{needs}
-use Rattle.station_line.specs.Interface.{leaveAs}
+use Rattle.leave.specs.Leave.{leaveAs}
 use Rattle.station_line.proofs.station_line_may_leave.Statement.{statement}
 use Rattle.station_line.proofs.station_line_may_leave.Tie as tie
 

@@ -42,7 +42,7 @@ use denote.Triple.Clauses.{ensured}
 use denote.Exit.{yes}
 use Rattle.view.specs.declared.View.{View}
 use Rattle.view.proofs.Apart.{B, D, L, Own, twice}
-use Rattle.view.proofs.While.{tests, counts}
+use Rattle.walks.proofs.While.{tests, counts}
 use Rattle.view.proofs.View as T
 use Rattle.view.proofs.View.Laws as T′
 use Rattle.view.proofs.open_view as opened

@@ -1,0 +1,3 @@
+-- Laws that the proofs by hand cite.
+pub mod While
+pub mod Stage

@@ -1,0 +1,1 @@
+// Laws only: the loop of a proof by hand, and a list that such a loop fills.
