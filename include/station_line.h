@@ -1,11 +1,11 @@
 /* The station line: checks a table of ground stations, runs a step list over it, lists what may happen next, and answers two
- * questions about it.
+ * questions about it, one of them also of many stations in one call.
  *
  * Every function takes any bytes and any numbers, ends, and gives the answer fixed for its input; none keeps anything between
  * calls, allocates, or reads or writes anything but what it is handed. They may be called from several threads at once.
  *
- * What the caller owes: each pointer is valid for the length given with it (it may be null where that length is 0), and `room`
- * does not overlap `table` or `steps`.
+ * What the caller owes: each pointer is valid for the length given with it (it may be null where that length is 0), and `room` or
+ * `records` does not overlap anything else that is handed over.
  *
  * A table is a run of 512-byte blocks, one per station, at most 64 of them. A step list is a run of 12-byte steps, at most 4,096
  * of them. Integers are little-endian. docs/FORMAT.md has every byte; station_line_layout.h takes a block or a step apart and puts it
@@ -23,8 +23,8 @@ extern "C" {
 
 /* The version of this header; station_line_version() has that of the library that is linked. */
 #define STATION_LINE_VERSION_MAJOR 2
-#define STATION_LINE_VERSION_MINOR 0
-#define STATION_LINE_VERSION "2.0"
+#define STATION_LINE_VERSION_MINOR 1
+#define STATION_LINE_VERSION "2.1"
 
 /* Sizes. */
 #define STATION_LINE_BLOCK_BYTES 512
@@ -37,8 +37,10 @@ extern "C" {
 #define STATION_LINE_STEPS_BYTES 49152 /* the longest step list */
 #define STATION_LINE_MOST_ALLOWED 2112 /* steps that may happen next: a timeout and 32 deliveries for each of 64 stations */
 #define STATION_LINE_ALLOWED_BYTES 25344 /* room for the list of these steps, of any table */
+#define STATION_LINE_MOST_QUESTIONS 64 /* stations asked about in one roll call */
 
-/* The numbers. Where several apply, the smallest is given, whatever the order of the blocks. */
+/* The numbers. Where several apply, the smallest is given, whatever the order of the blocks; only 17 is told before 9. 16 is left to
+ * programs that read files. */
 enum {
     STATION_LINE_DONE = 0,            /* no refusal */
     STATION_LINE_TABLE_LENGTH = 1,    /* table length not a multiple of 512 */
@@ -49,13 +51,14 @@ enum {
     STATION_LINE_TWICE = 6,           /* two blocks with one station number */
     STATION_LINE_UNKNOWN = 7,         /* a neighbour or introduction names a station without a block */
     STATION_LINE_LIST_LENGTH = 8,     /* step list not a multiple of 12 bytes, or over 4,096 steps */
-    STATION_LINE_ROOM = 9,            /* room shorter than the table read, or than the list of allowed steps */
+    STATION_LINE_ROOM = 9,            /* room shorter than the table read, or than the list that would fill it */
     STATION_LINE_MALFORMED = 10,      /* malformed step */
     STATION_LINE_ABSENT = 11,         /* station not present */
     STATION_LINE_NOT_IN_BAG = 12,     /* message not in that bag */
     STATION_LINE_STAYING = 13,        /* exit by a staying station */
     STATION_LINE_HELD = 14,           /* exit, leaving, NIDEC false */
-    STATION_LINE_FULL = 15            /* a bag that must receive holds 32 */
+    STATION_LINE_FULL = 15,           /* a bag that must receive holds 32 */
+    STATION_LINE_TOO_MANY = 17        /* more than 64 stations asked */
 };
 
 /* Reasons: what the leave question finds, and at 2 and 3 why a run stops with 14. The bag is looked at first, so 2 is given
@@ -74,14 +77,15 @@ struct station_line_ran {
     uint32_t answer, done, stations, reason, holder;
 };
 
-/* What a call that fills a list returns: its number and, where that is 0, the steps filled. Beside any other number filled is 0. */
+/* What a call that fills a list returns: its number and, where that is 0, the steps or records filled. Beside any other number filled
+ * is 0. */
 struct station_line_filled {
     uint32_t answer, filled;
 };
 
-/* What the leave question returns: its number and, where that is 0, reason 1, 2 or 3; beside any other number reason is 0. Where
- * reason is 3, holder is the smallest station that holds the one asked about, whatever the order of the blocks; else holder is
- * 0. */
+/* What the leave question returns, and a record of a roll call: its number and, where that is 0, reason 1, 2 or 3; beside any other
+ * number reason is 0. Where reason is 3, holder is the smallest station that holds the one asked about, whatever the order of the
+ * blocks; else holder is 0. */
 struct station_line_leave {
     uint32_t answer, reason, holder;
 };
@@ -123,6 +127,16 @@ struct station_line_filled station_line_allowed(const uint8_t *table, size_t tab
  * introduction in its bag; and if not, why not. 1 to 7 of the table, 11 where no block has that number, or 0 with the reason. */
 struct station_line_leave station_line_may_leave(const uint8_t *table, size_t table_len, uint32_t station);
 
+/* The roll call: the leave question about up to 64 stations at once, in the order given, repeats included. stations_len counts
+ * numbers and records_len records, not bytes.
+ *
+ * 1 to 7 of the table, then 17 for more than 64 stations, then 9 exactly when there are fewer records than stations: filled is 0 and
+ * every record is as it was.
+ * 0: filled is stations_len, and record k is what station_line_may_leave() tells of stations[k]; so a number without a block has 11
+ * in its own record, and the others are answered. The records past these are as they were. */
+struct station_line_filled station_line_roll_call(const uint8_t *table, size_t table_len, const uint32_t *stations, size_t stations_len,
+                                                  struct station_line_leave *records, size_t records_len);
+
 /* Whether the table is in line: each station's left is the next smaller station present, none for the smallest, and likewise its
  * right. 1 to 7 of the table, or 0 with yes or no. The empty table is in line. */
 struct station_line_told station_line_in_line(const uint8_t *table, size_t table_len);
@@ -139,7 +153,7 @@ struct station_line_viewed station_line_view(const uint8_t *table, size_t table_
  * can't be read, has words too; a number without a meaning has words that say so. */
 const char *station_line_words(uint32_t number);
 
-/* The version of the library, as "2.0". */
+/* The version of the library, as "2.1". */
 const char *station_line_version(void);
 
 #ifdef __cplusplus

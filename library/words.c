@@ -11,7 +11,7 @@ static const char *const words[] = {
     "two blocks with one station number",
     "a neighbour or introduction names a station without a block",
     "step list not a multiple of 12 bytes, or over 4,096 steps",
-    "room shorter than the table read, or than the list of allowed steps",
+    "room shorter than the table read, or than the list that would fill it",
     "malformed step",
     "station not present",
     "message not in that bag",
@@ -19,6 +19,7 @@ static const char *const words[] = {
     "exit, leaving, NIDEC false",
     "a bag that must receive holds 32",
     "a file can't be read, or is over 32,768 (table) or 49,152 (steps) bytes",
+    "more than 64 stations asked",
 };
 
 const char *station_line_words(uint32_t number) {
