@@ -25,6 +25,14 @@ pub struct Leave {
     pub holder: u32,
 }
 
+impl Leave {
+    /// Its 12 bytes, as they lie in a record.
+    pub fn bytes(self) -> Vec<u8> {
+        let fields = [self.answer, self.reason, self.holder];
+        fields.iter().flat_map(|n| n.to_le_bytes()).collect()
+    }
+}
+
 #[repr(C)]
 #[derive(Clone, Copy, Debug, PartialEq, Eq)]
 pub struct Told {
@@ -58,6 +66,14 @@ unsafe extern "C" {
         room_len: usize,
     ) -> Filled;
     fn station_line_may_leave(table: *const u8, table_len: usize, station: u32) -> Leave;
+    fn station_line_roll_call(
+        table: *const u8,
+        table_len: usize,
+        stations: *const u32,
+        stations_len: usize,
+        records: *mut Leave,
+        records_len: usize,
+    ) -> Filled;
     fn station_line_in_line(table: *const u8, table_len: usize) -> Told;
     fn station_line_view(table: *const u8, table_len: usize, position: usize) -> Viewed;
 }
@@ -155,6 +171,24 @@ pub fn allowed(table: &Lent, room: &mut Lent) -> Filled {
 
 pub fn may_leave(table: &Lent, station: u32) -> Leave {
     unsafe { station_line_may_leave(table.pointer(), table.len, station) }
+}
+
+/// The numbers and the records lie as bytes in what is lent, at a place that is a multiple of four.
+pub fn roll_call(table: &Lent, stations: &Lent, records: &mut Lent) -> Filled {
+    let records_len = records.len / size_of::<Leave>();
+    let numbers = stations.pointer().cast::<u32>();
+    let lent = records.pointer_mut().cast::<Leave>();
+    assert!(numbers.is_aligned() && lent.is_aligned());
+    unsafe {
+        station_line_roll_call(
+            table.pointer(),
+            table.len,
+            numbers,
+            stations.len / size_of::<u32>(),
+            lent,
+            records_len,
+        )
+    }
 }
 
 pub fn in_line(table: &Lent) -> Told {

@@ -9,6 +9,7 @@ use crate::joined;
 use crate::leaving::{same_leave, same_of_alike, same_reason};
 use crate::random::Random;
 use crate::reasons;
+use crate::roll_call::{OneByOne, same_roll_call};
 use crate::tables::{self, BLOCK};
 use crate::tally::{Comparison, Tally};
 
@@ -88,8 +89,11 @@ pub fn compare(random: &mut Random, case: &Case, tally: &mut Tally) -> Result<()
     tally.compared(Comparison::Check, checked)?;
     let lined = same_line(&table, &case.table, tally);
     tally.compared(Comparison::Line, lined)?;
-    let left = same_leave(random, &table, &case.table, &mut tally.leaves);
+    let mut alone = OneByOne::new();
+    let left = same_leave(random, &table, &case.table, &mut alone, &mut tally.leaves);
     tally.compared(Comparison::Leave, left)?;
+    let called = same_roll_call(random, &table, &case.table, &mut alone, &mut tally.calls);
+    tally.compared(Comparison::RollCall, called)?;
     let viewed = same_view(random, &table, &case.table, tally);
     tally.compared(Comparison::View, viewed)?;
     tally.compared(Comparison::Lent, lent_whole(case, &table, &list, &room))?;

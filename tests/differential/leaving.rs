@@ -7,6 +7,7 @@ use crate::archive::{self, Leave, Lent, Ran};
 use crate::cases::Case;
 use crate::random::Random;
 use crate::reasons;
+use crate::roll_call::OneByOne;
 use crate::tables::BLOCK;
 
 /// What is to be met of the stations asked about; of those that a run stops at too, which never may leave.
@@ -56,7 +57,7 @@ impl Leaves {
 }
 
 /// The station numbers as they are stored.
-fn stored(table: &[u8]) -> Vec<u32> {
+pub fn stored(table: &[u8]) -> Vec<u32> {
     table
         .chunks_exact(BLOCK)
         .map(|block| u32::from_le_bytes([block[4], block[5], block[6], block[7]]))
@@ -92,7 +93,8 @@ fn count(met: &mut [u64; MET.len()], table: &Table, stored: &[u32], p: u32) {
     }
 }
 
-fn wanted(answer: Result<model::Leave, u32>) -> Leave {
+/// The model's answer in the three numbers of the C interface.
+pub fn wanted(answer: Result<model::Leave, u32>) -> Leave {
     let (reason, holder) = answer.map_or((reasons::NO_REASON, 0), reasons::of_leave);
     Leave {
         answer: answer.err().unwrap_or(0),
@@ -101,11 +103,12 @@ fn wanted(answer: Result<model::Leave, u32>) -> Leave {
     }
 }
 
-/// The number, the reason and the holder for every station of the table and for some that are absent.
+/// The number, the reason and the holder for every station of the table and for some that are absent. What the archive answers is kept.
 pub fn same_leave(
     random: &mut Random,
     lent: &Lent,
     table: &[u8],
+    one_by_one: &mut OneByOne,
     leaves: &mut Leaves,
 ) -> Result<(), String> {
     let stations = model::read_table(table);
@@ -116,6 +119,7 @@ pub fn same_leave(
             Err(number) => Err(*number),
         };
         let (leave, wanted) = (archive::may_leave(lent, station), wanted(answer));
+        one_by_one.insert(station, leave);
         leaves.answers[wanted.answer as usize] += 1;
         if let (Ok(stations), Ok(_)) = (&stations, answer) {
             count(&mut leaves.asked, stations, &stored, station);

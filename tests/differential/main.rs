@@ -14,6 +14,7 @@ mod joined;
 mod leaving;
 mod random;
 mod reasons;
+mod roll_call;
 mod steps;
 mod tables;
 mod tally;

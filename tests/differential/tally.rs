@@ -6,6 +6,7 @@ use crate::allowed::Lists;
 use crate::archive::{Told, Viewed};
 use crate::cases::{Case, KINDS};
 use crate::leaving::Leaves;
+use crate::roll_call::RollCalls;
 use crate::steps::RULES;
 
 /// What is compared, each over every case that it fits.
@@ -18,13 +19,14 @@ pub enum Comparison {
     Line,
     Leave,
     Reason,
+    RollCall,
     View,
     Lent,
     Joins,
     Receivers,
 }
 
-pub const COMPARISONS: [&str; 11] = [
+pub const COMPARISONS: [&str; 12] = [
     "the run's number, counts, reason and holder",
     "every byte of the room",
     "the list of allowed steps, and every byte of its room",
@@ -32,6 +34,7 @@ pub const COMPARISONS: [&str; 11] = [
     "the line question",
     "the leave question: number, reason and holder",
     "the reason of a 14, and the leave question about what was written",
+    "the roll call, every byte of its records, and asking one by one",
     "the view at every position and past the end",
     "lent memory, and what lies around it, as it was",
     "joined stations before and after",
@@ -90,6 +93,7 @@ pub struct Tally {
     pub leaves: Leaves,
     pub view: Views,
     pub lists: Lists,
+    pub calls: RollCalls,
     /// The refused steps 11 to 15 by action: timeout, deliver, exit.
     pub stopped: [[u64; 3]; 16],
     pub steps_done: u64,
@@ -206,6 +210,7 @@ impl Tally {
         );
         missing.extend(self.leaves.missing());
         missing.extend(self.lists.missing());
+        missing.extend(self.calls.missing());
         missing
     }
 
@@ -248,6 +253,7 @@ impl Tally {
             println!("{count:>10}  {number}");
         }
         self.lists.print();
+        self.calls.print();
         println!("steps done, by rule, of those chosen against the model:");
         for (name, count) in RULES.iter().zip(&self.rules) {
             println!("{count:>10}  {name}");

@@ -12,6 +12,9 @@ mod first_steps;
 mod listing;
 #[cfg(test)]
 mod reasons;
+mod roll_call;
+#[cfg(test)]
+mod roll_calls;
 mod rules;
 #[cfg(test)]
 mod situations;
@@ -21,6 +24,7 @@ use std::collections::BTreeMap;
 pub use allowed::{allowed, fill};
 pub use bytes::{read_step, read_table, write_step, write_table};
 pub use listing::{listing, program};
+pub use roll_call::{MOST_QUESTIONS, Mentions, mentions, roll_call};
 pub use rules::{Effect, Refusal, apply, copies, effect, held, nidec};
 
 /// The sizes of "What the engine holds", "The block" and "The step list".
