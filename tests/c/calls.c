@@ -55,6 +55,23 @@ void expect_allowed(struct bytes table, size_t room_len, struct station_line_fil
     }
 }
 
+void expect_roll_call(struct bytes table, struct numbers stations, size_t records, struct station_line_filled wanted,
+                      const struct station_line_leave *written) {
+    size_t asked_len = stations.count * sizeof *stations.at, room_len = records * sizeof *written;
+    struct bytes as_bytes = {(const uint8_t *)written, wanted.filled * sizeof *written};
+    for (enum place place = BEHIND; place <= places(table.len == 0 || asked_len == 0 || room_len == 0); place++) {
+        const uint8_t *t = lend_bytes(&tables, table.at, table.len, place);
+        const void *asked = lend_bytes(&lists, (const uint8_t *)stations.at, asked_len, place);
+        void *room = lend_room(&rooms, room_len, place);
+        struct station_line_filled filled = station_line_roll_call(t, table.len, asked, stations.count, room, records);
+        expect(filled.answer == wanted.answer, "the answer of the roll call");
+        expect(filled.filled == wanted.filled, "the records filled");
+        expect_room(room_len, place, wanted.filled == 0 ? no_bytes : as_bytes);
+    }
+    for (size_t k = 0; k < wanted.filled; k++)
+        expect_leave(table, stations.at[k], written[k]);
+}
+
 void expect_check(struct bytes table, uint32_t answer) {
     for (enum place place = BEHIND; place <= places(table.len == 0); place++)
         expect(station_line_check(lend_bytes(&tables, table.at, table.len, place), table.len) == answer, "the number of the check");

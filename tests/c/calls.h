@@ -1,4 +1,4 @@
-/* The six functions of include/station_line.h, called with what they are handed at every place of the guarded areas. */
+/* The seven functions of include/station_line.h, called with what they are handed at every place of the guarded areas. */
 #ifndef CALLS_H
 #define CALLS_H
 
@@ -15,7 +15,14 @@ struct bytes {
 
 extern const struct bytes no_bytes;
 
-/* Makes the areas, for tables and rooms of up to 66 blocks and lists of up to 4,097 steps. */
+/* Some station numbers; the pointer is not null, also where there are none. */
+struct numbers {
+    const uint32_t *at;
+    size_t count;
+};
+
+/* Makes the areas, for tables and rooms of up to 66 blocks and lists of up to 4,097 steps; questions lie where lists do, and records where
+ * rooms do. */
 void make_areas(void);
 
 /* What a run returns, the bytes that it writes, and that it touches no other byte of the room or beside it. */
@@ -23,6 +30,11 @@ void expect_run(struct bytes table, struct bytes steps, size_t room_len, struct 
 
 /* The same of a list of allowed steps: what is written is the list. */
 void expect_allowed(struct bytes table, size_t room_len, struct station_line_filled wanted, struct bytes written);
+
+/* The same of a roll call with room for so many records: what is written is a record for each that is filled. Each of them is what the
+ * leave question tells of its station alone. */
+void expect_roll_call(struct bytes table, struct numbers stations, size_t records, struct station_line_filled wanted,
+                      const struct station_line_leave *written);
 
 void expect_check(struct bytes table, uint32_t answer);
 void expect_leave(struct bytes table, uint32_t station, struct station_line_leave wanted);

@@ -1,4 +1,4 @@
-/* The C interface as a C program meets it: interface CASES QUESTIONS. All six functions on the example of document 01, on every refusal
+/* The C interface as a C program meets it: interface CASES QUESTIONS. All seven functions on the example of document 01, on every refusal
  * number, with rooms too short, exact and longer than needed, every byte compared, and the stored questions asked. What is handed over lies
  * against pages that may not be touched (areas.h). The last line is 'N passed, M failed', counting cases. */
 #include <stdio.h>
@@ -20,6 +20,7 @@ int main(int argc, char **argv) {
     try_stops();
     try_allowed();
     try_questions();
+    try_roll_call();
     try_views();
     try_stored(argv[1], argv[2]);
     return end_cases();

@@ -1,15 +1,8 @@
 /* The two questions, of tables that are accepted; those that are not stand with the refusals. */
 #include "calls.h"
 #include "cases.h"
+#include "leaves.h"
 #include "tries.h"
-
-static const struct station_line_leave absent = {11, 0, 0};
-static const struct station_line_leave may_leave = {0, STATION_LINE_MAY_LEAVE, 0};
-static const struct station_line_leave own_bag = {0, STATION_LINE_OWN_BAG, 0};
-
-static struct station_line_leave held_by(uint32_t holder) {
-    return (struct station_line_leave){0, STATION_LINE_HELD_BY, holder};
-}
 
 static void try_leave(void) {
     uint8_t table[EXAMPLE];

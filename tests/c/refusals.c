@@ -8,6 +8,17 @@ static void refuse(const char *what, uint32_t number, struct bytes table, struct
     expect_run(table, steps, room_len, (struct station_line_ran){number, 0, 0, 0, 0}, no_bytes);
 }
 
+/* The table's number comes before 17 and 9, and no question has to be asked for it. */
+static void refuse_roll_calls(struct bytes table, uint32_t number) {
+    static uint32_t asked[65];
+    struct station_line_filled wanted = {number, 0};
+    expect_roll_call(table, (struct numbers){asked, 0}, 0, wanted, NULL);
+    expect_roll_call(table, (struct numbers){asked, 1}, 1, wanted, NULL);
+    expect_roll_call(table, (struct numbers){asked, 64}, 63, wanted, NULL);
+    expect_roll_call(table, (struct numbers){asked, 65}, 65, wanted, NULL);
+    expect_roll_call(table, (struct numbers){asked, 65}, 0, wanted, NULL);
+}
+
 /* 1 to 7 are told by every function. */
 static void refuse_table(const char *what, uint32_t number, const uint8_t *at, size_t len, size_t room_len) {
     struct bytes table = {at, len};
@@ -16,6 +27,7 @@ static void refuse_table(const char *what, uint32_t number, const uint8_t *at, s
     expect_allowed(table, 0, (struct station_line_filled){number, 0}, no_bytes);
     expect_check(table, number);
     expect_leave(table, 5, (struct station_line_leave){number, 0, 0});
+    refuse_roll_calls(table, number);
     expect_line(table, number, 0);
     expect_view(table, 0, (struct station_line_viewed){number, 0, 0, 0});
 }

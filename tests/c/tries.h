@@ -19,6 +19,7 @@ void try_refusals(void);
 void try_stops(void);
 void try_allowed(void);
 void try_questions(void);
+void try_roll_call(void);
 void try_views(void);
 
 /* The questions of tests/questions.txt about the tables of cases.bin: one case for each table. */

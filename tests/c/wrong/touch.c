@@ -1,10 +1,13 @@
 /* A stand-in for the archive that is wrong in one way, to show that the test sees it. The linker hands it every call of the test (ld's
  * --wrap); it lets the archive answer, so that the answers and the table written are right, and then touches one byte that it may not.
  *
- * The way is said by the environment's WRONG, four words: the function (check, run, allowed, leave, line, view), what it was handed
+ * The way is said by the environment's WRONG, four words: the function (check, run, allowed, leave, roll, line, view), what it was handed
  * (table, list, room), read or write, and where: before it, behind it, or inside (a byte of a table or a list, or of a room past the
- * table or the list written). "stale" and run or leave is one that gives the reason of an earlier call again where there is none to give.
- * "ends" is a program that dies after its last line. Without WRONG nothing is wrong. */
+ * table or the list written). The questions of a roll call are its list, and its records the room. "stale" and run, leave or roll is one
+ * that gives an earlier reason again where there is none to give. "ends" is a program that dies after its last line. What else a roll call
+ * may do wrong is in roll_call.c. Without WRONG nothing is wrong. */
+#include "touch.h"
+
 #include <stdio.h>
 #include <stdlib.h>
 #include <string.h>
@@ -32,8 +35,7 @@ static void die(void) {
     _Exit(9);
 }
 
-/* Touches a byte of these, or beside them, where WRONG says so; the byte inside is the first one that is not to be touched. */
-static void touch(const char *function, const char *what, const uint8_t *at, size_t len, size_t inside) {
+void touch(const char *function, const char *what, const uint8_t *at, size_t len, size_t inside) {
     const char *wrong = getenv("WRONG");
     char first[8], second[8], how[8], where[8];
     if (!wrong || !at || sscanf(wrong, "%7s %7s %7s %7s", first, second, how, where) != 4)
@@ -50,8 +52,7 @@ static void touch(const char *function, const char *what, const uint8_t *at, siz
         (void)*byte;
 }
 
-/* Puts the last reason and holder in the place of none, where WRONG says so. */
-static void keep_reason(const char *function, uint32_t *reason, uint32_t *holder) {
+void keep_reason(const char *function, uint32_t *reason, uint32_t *holder) {
     static uint32_t last_reason, last_holder;
     const char *wrong = getenv("WRONG");
     if (!wrong || strncmp(wrong, "stale ", 6) != 0 || strcmp(wrong + 6, function) != 0)
