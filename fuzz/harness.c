@@ -1,8 +1,8 @@
-/* Calls the six functions of include/station_line.h on a fuzzer's input and stops where one of these laws is broken:
+/* Calls the seven functions of include/station_line.h on a fuzzer's input and stops where one of these laws is broken:
  *
  *  - the room is untouched at 1 to 9, and past the written table at every other answer; what surrounds it is never touched;
  *  - the counts at 1 to 9 are 0; all steps are done exactly at 0;
- *  - the check, the run, the list of allowed steps, the two questions and the view give one and the same number of 1 to 7;
+ *  - the check, the run, the list of allowed steps, the two questions, the roll call and the view give one and the same number of 1 to 7;
  *  - what is written is accepted, its blocks rise, and a run of it with no steps writes the same bytes;
  *  - a list of allowed steps is refused with 9 exactly when its room is shorter, and the room is then untouched, as it is past the list;
  *  - its steps rise; a step is in it exactly when a run of that step alone answers 0 (tried for some of them where there are many);
@@ -11,6 +11,8 @@
  *  - an exit of the station asked about is refused by 13, 14 or 11 as the leave question says;
  *  - the leave question finds the own bag first and then the smallest holder, read here from the blocks in any order, and gives no reason
  *    beside a refusal; a run gives one at 14 alone, which is the question's own, asked of what the run wrote;
+ *  - a roll call is refused for the table, then with 17 for more than 64 questions, then with 9 for too few records, and every record is
+ *    then as it was, as are those past the questions; else each record is what the blocks say of its station, in the questions' order;
  *  - the line question agrees with the written table, read here;
  *  - the view gives a block at its place, and past the last one the end.
  *
@@ -36,7 +38,7 @@ __attribute__((section("__libfuzzer_extra_counters")))
 #endif
 static uint8_t counters[COUNTERS];
 
-uint64_t answers_met[16], lists_met[10], reasons_met[4], stops_met[4];
+uint64_t answers_met[16], lists_met[10], reasons_met[4], stops_met[4], calls_met[18], records_met[4];
 
 static void tell(uint32_t kind, uint32_t a, uint32_t b, uint32_t c)
 {
@@ -89,10 +91,9 @@ static int names(const uint8_t *block, uint32_t station)
     return found;
 }
 
-/* The leave question about a station of an accepted table, with what the blocks say of it. */
-static struct station_line_leave leave_of(const uint8_t *table, size_t table_len, uint32_t station, enum place place)
+/* What the blocks of an accepted table, in any order, say of a station: its own bag first, then the smallest holder. */
+static struct station_line_leave leave_in_blocks(const uint8_t *table, size_t table_len, uint32_t station)
 {
-    struct station_line_leave leave = station_line_may_leave(lend_bytes(&tables, table, table_len, place), table_len, station);
     const uint8_t *own = block_of(table, table_len, station);
     uint32_t holder = 0;
     for (size_t at = 0; at < table_len; at += BLOCK) {
@@ -101,14 +102,23 @@ static struct station_line_leave leave_of(const uint8_t *table, size_t table_len
             holder = other;
         }
     }
-    int in_bag = own != NULL && get16(own + 16) > 0;
-    uint32_t reason = own == NULL ? STATION_LINE_NO_REASON
-                      : in_bag    ? STATION_LINE_OWN_BAG
-                      : holder    ? STATION_LINE_HELD_BY
-                                  : STATION_LINE_MAY_LEAVE;
-    law(leave.answer == (own == NULL ? 11 : 0), "the leave question finds the station");
-    law(leave.reason == reason, "the leave question looks at the own bag, then for holders");
-    law(leave.holder == (reason == STATION_LINE_HELD_BY ? holder : 0), "the leave question gives the smallest holder");
+    if (own == NULL) {
+        return (struct station_line_leave){11, STATION_LINE_NO_REASON, 0};
+    }
+    if (get16(own + 16) > 0) {
+        return (struct station_line_leave){0, STATION_LINE_OWN_BAG, 0};
+    }
+    return (struct station_line_leave){0, holder != 0 ? STATION_LINE_HELD_BY : STATION_LINE_MAY_LEAVE, holder};
+}
+
+/* The leave question about a station of an accepted table. */
+static struct station_line_leave leave_of(const uint8_t *table, size_t table_len, uint32_t station, enum place place)
+{
+    struct station_line_leave leave = station_line_may_leave(lend_bytes(&tables, table, table_len, place), table_len, station);
+    struct station_line_leave wanted = leave_in_blocks(table, table_len, station);
+    law(leave.answer == wanted.answer, "the leave question finds the station");
+    law(leave.reason == wanted.reason, "the leave question looks at the own bag, then for holders");
+    law(leave.holder == wanted.holder, "the leave question gives the smallest holder");
     return leave;
 }
 
@@ -239,6 +249,54 @@ static void ask(const struct cut *c, uint32_t fault, enum place place)
     reasons_met[leave.reason]++;
     tell(1, leave.answer, leave.reason, line.yes);
     exit_asked(c, leave, place);
+}
+
+/* The questions of an input's roll call: stations as they are stored, beginning with the one asked about, and each fourth one a number of
+ * the step list. Gives how many they are, which the room's length says. */
+static size_t put_questions(uint32_t *asked, const struct cut *c)
+{
+    size_t count = c->room_len % (MOST_ASKED + 1), blocks = c->table_len / BLOCK, numbers = c->steps_len / 4;
+    for (size_t k = 0; k < count; k++) {
+        asked[k] = c->station;
+        if (k % 4 == 3 && numbers > 0) {
+            asked[k] = get32(c->steps + k / 4 % numbers * 4);
+        } else if (k > 0 && blocks > 0) {
+            asked[k] = get32(c->table + (k + c->station) % blocks * BLOCK + 4);
+        }
+    }
+    return count;
+}
+
+/* The records of an accepted table, beside its blocks. */
+static void read_records(const struct cut *c, const uint32_t *asked, const struct station_line_leave *records, size_t count)
+{
+    for (size_t k = 0; k < count; k++) {
+        struct station_line_leave wanted = leave_in_blocks(c->table, c->table_len, asked[k]);
+        law(records[k].answer == wanted.answer, "a record has 11 where its own station is absent");
+        law(records[k].reason == wanted.reason && records[k].holder == wanted.holder, "a record is what the blocks say of its station");
+        records_met[wanted.reason]++;
+        tell(9, wanted.reason, size_class(k), size_class(c->table_len / BLOCK));
+    }
+}
+
+/* A roll call, on the table as it was handed over, with a record less than questions, just as many, or one or two more. */
+static void call_roll(const struct cut *c, uint32_t fault, enum place place)
+{
+    static uint32_t asked[MOST_ASKED];
+    const size_t record = sizeof(struct station_line_leave);
+    size_t count = put_questions(asked, c), lent = count + c->station / 4 % 4;
+    lent -= lent > 0 ? 1 : 0;
+    const uint8_t *table = lend_bytes(&tables, c->table, c->table_len, place);
+    const void *questions = lend_bytes(&lists, (const uint8_t *)asked, count * sizeof *asked, place);
+    void *records = lend_room(&rooms, lent * record, place);
+    struct station_line_filled filled = station_line_roll_call(table, c->table_len, questions, count, records, lent);
+    uint32_t wanted = fault != 0 ? fault : count > 64 ? 17 : lent < count ? 9 : 0;
+    law(filled.answer == wanted, "a roll call is refused for the table, then for its questions, then for its records");
+    law(filled.filled == (wanted == 0 ? count : 0), "a roll call has a record for each question, or none");
+    law(rest_untouched(&rooms, lent * record, place, filled.filled * record), "nothing but the records is touched");
+    calls_met[wanted]++;
+    tell(10, wanted, size_class(count), 0);
+    read_records(c, asked, records, filled.filled);
 }
 
 /* Whether the first of two steps comes before the second in the list: by station, action, kind and number. */
@@ -453,6 +511,7 @@ int LLVMFuzzerTestOneInput(const uint8_t *data, size_t size)
     tell(0, fault, size_class(c.table_len / BLOCK), 0);
     walk(&c, fault, place);
     ask(&c, fault, place);
+    call_roll(&c, fault, place);
     list_allowed(&c, fault, place);
     run(&whole, c.table, c.table_len, c.steps, c.steps_len, c.room_len, place);
     answers_met[whole.ran.answer]++;

@@ -37,6 +37,8 @@ int main(int argc, char **argv)
     print_met("answers of the list of allowed steps met", lists_met, 10);
     print_met("reasons of the leave question met", reasons_met, 4);
     print_met("reasons of a 14 met", stops_met, 4);
+    print_met("answers of the roll call met", calls_met, 18);
+    print_met("reasons in its records met", records_met, 4);
     printf("%d passed, 0 failed\n", argc - 1);
     return argc == 1;
 }

@@ -1,14 +1,14 @@
 #!/usr/bin/env python3
 """Writes the seeds of fuzz/corpus: the printed example of document 01, the shorter cases of crates/situations/data/cases.bin, tables for the
-list of allowed steps, and one for each thing that may hold a station. Run it in the repository's root; with one argument it writes them below
-that folder. An input is four numbers of 32 bits (length of the table, of the step list, of the room; the station asked about), the table and
-the step list."""
+list of allowed steps, one for each thing that may hold a station, and roll calls. Run it in the repository's root; with one argument it
+writes them below that folder. An input is four numbers of 32 bits (length of the table, of the step list, of the room; the station asked
+about), the table and the step list."""
 import pathlib
 import struct
 import sys
 
 sys.path.insert(0, "tests")
-from layout import EXIT, INTRODUCTION, REMOVE_LEFT, REMOVE_RIGHT, block, step
+from layout import EXIT, INTRODUCTION, REMOVE_LEFT, REMOVE_RIGHT, TIMEOUT, block, step
 
 MOST = 3000
 corpus = pathlib.Path(sys.argv[1] if len(sys.argv) > 1 else ".", "fuzz/corpus")
@@ -65,3 +65,20 @@ held("held-by-neighbour", left9=5)
 held("held-by-introduction", bag6=introduced)
 held("held-by-introduction-below-neighbour", bag6=introduced, left9=5)
 held("held-by-smallest", (), 5, introduced, 5)
+
+
+def roll_call(name, questions, station, right3=5):
+    """So many questions, which the room's length says. The first is about 3, with one record less than questions; 5, with just as many; or
+    8, which is absent, with one more. The step list has two absent numbers as well."""
+    table = block(9, left=5) + block(7, bag=introduced) + block(5, leaving=1) + block(3, right=right3) + block(2, right=3)
+    seed("roll-" + name, table, step(TIMEOUT, 4) + step(TIMEOUT, 999999), 40 * 70 + questions, station)
+
+
+roll_call("none", 0, 3)
+roll_call("one", 1, 5)
+roll_call("absent", 17, 8)
+roll_call("short", 17, 3)
+roll_call("most", 64, 5)
+roll_call("many", 65, 8)
+roll_call("many-short", 65, 3)
+roll_call("refused", 65, 3, right3=4)
