@@ -50,6 +50,18 @@ const struct command commands[] = {
      .details = "Prints yes where the station may leave; bag where its own bag is not empty; else\n"
                 "held-by and the smallest station that has it as a neighbour or as an\n"
                 "introduction in its bag. The exit status is 0 for yes and 1 for the others.\n"},
+    {.name = "roll-call",
+     .words = {"TABLE"},
+     .more = true,
+     .does = roll_call_command,
+     .usage = "roll-call TABLE [STATION...]",
+     .summary = "the same of many stations, a line each",
+     .details = "Prints a line for each station, in the order given: its number and yes, bag or\n"
+                "held-by as 'leave' prints it, or absent where the table has no such station.\n"
+                "At most 64 stations may be asked about (17); a station may be named again.\n"
+                "Without a station it asks about all of the table, by rising number.\n"
+                "\n"
+                "The lines are the answers, so the exit status is 0 whatever they say.\n"},
     {.name = "line",
      .words = {"TABLE"},
      .does = line_command,

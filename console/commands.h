@@ -11,7 +11,7 @@ enum option { OUTPUT, ALL_OR_NOTHING, ALL, DAMAGED, TRACE, ONLY, AROUND, OPTIONS
 
 /* The words after the command, and each option's value: null where it isn't given, empty where it takes none. */
 struct arguments {
-    const char *words[MOST_WORDS];
+    char **words;
     size_t count;
     const char *options[OPTIONS];
 };
@@ -19,6 +19,7 @@ struct arguments {
 struct command {
     const char *name;
     const char *words[MOST_WORDS]; /* as the help calls them; null for none */
+    bool more;                     /* whether any number of words may follow these */
     bool options[OPTIONS];         /* those that it takes */
     int (*does)(const struct arguments *);
     const char *usage, *summary, *details;
@@ -35,6 +36,7 @@ int check_command(const struct arguments *arguments);
 int run_command(const struct arguments *arguments);
 int allowed_command(const struct arguments *arguments);
 int leave_command(const struct arguments *arguments);
+int roll_call_command(const struct arguments *arguments);
 int line_command(const struct arguments *arguments);
 int view_command(const struct arguments *arguments);
 int assemble_command(const struct arguments *arguments);

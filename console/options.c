@@ -68,8 +68,13 @@ static int take_option(const struct command *command, int argc, char **argv, str
     return apart ? 2 : 1;
 }
 
-static bool take_word(const struct command *command, const char *word, struct arguments *arguments) {
-    if (arguments->count == MOST_WORDS || command->words[arguments->count] == NULL) {
+/* Whether the command has a word that is not given yet. */
+static bool is_wanting(const struct command *command, const struct arguments *arguments) {
+    return arguments->count < MOST_WORDS && command->words[arguments->count] != NULL;
+}
+
+static bool take_word(const struct command *command, char *word, struct arguments *arguments) {
+    if (!is_wanting(command, arguments) && !command->more) {
         (void)say_wrong_use(command->name, word, "one word too many");
         return false;
     }
@@ -79,7 +84,8 @@ static bool take_word(const struct command *command, const char *word, struct ar
 
 bool take_arguments(const struct command *command, int argc, char **argv, struct arguments *arguments) {
     bool options = true;
-    *arguments = (struct arguments){0};
+    /* The words are put at the beginning of the arguments: a word comes to stand where it was, or earlier. */
+    *arguments = (struct arguments){.words = argv};
     for (int k = 0; k < argc;) {
         bool option = options && argv[k][0] == '-' && argv[k][1] != '\0';
         int taken = 1;
@@ -93,7 +99,7 @@ bool take_arguments(const struct command *command, int argc, char **argv, struct
             return false;
         k += taken;
     }
-    if (arguments->count == MOST_WORDS || command->words[arguments->count] == NULL)
+    if (!is_wanting(command, arguments))
         return true;
     (void)say_wrong_use(command->name, command->name, "%s is missing", command->words[arguments->count]);
     return false;

@@ -1,6 +1,6 @@
 # Bash completion for station-line(1): commands, options of each, stations where a number is wanted, and file names.
 
-# The stations of the table that the words name, for `leave TABLE NUMBER` and `draw TABLE --around STATION`.
+# The stations of the table that the words name, for `leave TABLE NUMBER`, `roll-call TABLE STATION...` and `draw TABLE --around STATION`.
 _station_line_stations() {
     local word
     for word in "${COMP_WORDS[@]:2:COMP_CWORD-2}"; do
@@ -25,12 +25,14 @@ _station_line() {
     --around) choices=$(_station_line_stations) ;;
     esac
     if [ "$COMP_CWORD" -eq 1 ]; then
-        choices='check run allowed leave line view draw assemble dump help --help --version'
+        choices='check run allowed leave roll-call line view draw assemble dump help --help --version'
     elif [ "$command" = help ]; then
-        choices='check run allowed leave line view draw assemble dump'
+        choices='check run allowed leave roll-call line view draw assemble dump'
     elif [ "$COMP_CWORD" -eq 2 ] && [[ $command == assemble || $command == dump ]] && [[ $current != -* ]]; then
         choices='table steps'
     elif [ "$command" = leave ] && [ "$COMP_CWORD" -eq 3 ]; then
+        choices=$(_station_line_stations)
+    elif [ "$command" = roll-call ] && [ "$COMP_CWORD" -ge 3 ] && [[ $current != -* ]]; then
         choices=$(_station_line_stations)
     fi
     case $command in

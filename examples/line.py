@@ -1,8 +1,8 @@
 #!/usr/bin/env python3
 """The station line's library from Python, by ctypes alone: line.py [LIBRARY]
 
-Makes the table of the README's example and its one step, runs it, prints the listing, and asks whether station 9 may leave. LIBRARY is
-the shared library, libstation_line.so.2 if not given; docs/FORMAT.md has the bytes.
+Makes the first table of docs/MACHINE.md and its one step, runs it, prints the listing, asks whether station 9 may leave, and calls the roll
+of all stations. LIBRARY is the shared library, libstation_line.so.2 if not given; docs/FORMAT.md has the bytes.
 """
 import ctypes
 import struct
@@ -18,6 +18,10 @@ class Ran(ctypes.Structure):
     _fields_ = [(name, ctypes.c_uint32) for name in ("answer", "done", "stations", "reason", "holder")]
 
 
+class Filled(ctypes.Structure):
+    _fields_ = [(name, ctypes.c_uint32) for name in ("answer", "filled")]
+
+
 class Leave(ctypes.Structure):
     _fields_ = [(name, ctypes.c_uint32) for name in ("answer", "reason", "holder")]
 
@@ -29,6 +33,8 @@ def load(name):
     library.station_line_words.argtypes, library.station_line_words.restype = [number], octets
     library.station_line_run.argtypes, library.station_line_run.restype = [octets, size, octets, size, octets, size], Ran
     library.station_line_may_leave.argtypes, library.station_line_may_leave.restype = [octets, size, number], Leave
+    numbers, records = ctypes.POINTER(number), ctypes.POINTER(Leave)
+    library.station_line_roll_call.argtypes, library.station_line_roll_call.restype = [octets, size, numbers, size, records, size], Filled
     return library
 
 
@@ -59,6 +65,16 @@ def why(found):
     return {MAY_LEAVE: ["yes"], OWN_BAG: ["bag"], HELD_BY: ["held-by", found.holder]}.get(found.reason, [])
 
 
+def roll_call(library, table, stations):
+    """Prints a line for each of these stations, as `station-line roll-call` does."""
+    asked, records = (ctypes.c_uint32 * len(stations))(*stations), (Leave * len(stations))()
+    filled = library.station_line_roll_call(table, len(table), asked, len(asked), records, len(records))
+    if filled.answer != 0:
+        sys.exit(library.station_line_words(filled.answer).decode())
+    for station, record in zip(stations, records):
+        print(station, *(why(record) or ["absent"]))
+
+
 def main():
     library = load(sys.argv[1] if len(sys.argv) > 1 else "libstation_line.so.2")
     table = block(3, right=5) + block(5, left=3, right=9, messages=["i7"]) + block(7) + block(9, left=5)
@@ -71,6 +87,7 @@ def main():
     for k in range(ran.stations):
         print(line(room.raw[BLOCK * k:BLOCK * (k + 1)]))
     print("may 9 leave?", *why(library.station_line_may_leave(room.raw, BLOCK * ran.stations, 9)))
+    roll_call(library, room.raw[:BLOCK * ran.stations], [3, 5, 7, 9])
 
 
 main()

@@ -28,6 +28,8 @@ door16 $'answer 16 done 0 stations 0\n' run FILE bad.bin -o never.bin
 door16 '' allowed FILE
 door16 '' allowed FILE -o never.bin
 door16 '' leave FILE 5
+door16 '' roll-call FILE
+door16 '' roll-call FILE 5 6
 door16 '' line FILE
 door16 '' view FILE
 door16 '' draw FILE
@@ -61,6 +63,9 @@ for k in 1 3 4 5 6 7; do
     try run 1 "answer $k done 0 stations 0"$'\n' "$said" run $k.bin steps.bin -o never.bin
     try allowed 1 '' "$said" allowed $k.bin -o never.bin
     try leave 1 '' "$said" leave $k.bin 5
+    try 'roll-call of all' 1 '' "$said" roll-call $k.bin
+    try 'roll-call of two' 1 '' "$said" roll-call $k.bin 5 6
+    try 'roll-call, before 17' 1 '' "$said" roll-call $k.bin {1..65}
     try line 1 '' "$said" line $k.bin
     try view 1 '' "$said" view $k.bin
     try draw 1 '' "$said" draw $k.bin
@@ -103,6 +108,7 @@ stuck() {
 }
 group 'a full standard output'
 for sentence in --help --version 'help run' 'check table.bin' 'check 3.bin' 'run table.bin steps.bin' 'allowed table.bin' 'leave table.bin 5' \
+    'roll-call table.bin' 'roll-call 64.bin 5' \
     'line table.bin' 'view table.bin' 'draw table.bin' 'dump table table.bin' 'dump steps steps.bin' 'assemble table stations.txt' \
     'assemble steps steps.txt' 'dump steps 4096.bin' 'run 64.bin steps.bin'; do
     holds "$sentence" stuck $sentence

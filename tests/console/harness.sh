@@ -33,8 +33,16 @@ holds 'test: a question with its holder' stored_question 1 leave 5 0 3 3
 holds 'test: a question with another holder' refuses stored_question 1 leave 5 0 3 9
 holds 'test: a question with another reason' refuses stored_question 1 leave 5 0 2 0
 holds 'test: a question without a reason' refuses stored_question 1 leave 5 0 0 0
+printf '1 leave 5 0 3 3\n1 leave 6 11 0 0\n' > called.txt
+fake "printf '5 held-by 3\\n6 absent\\n'"
+holds 'test: a roll call with its records' stored_roll_call called.txt 1
+fake "printf '6 absent\\n5 held-by 3\\n'"
+holds 'test: a roll call in another order' refuses stored_roll_call called.txt 1
+fake "printf '5 held-by 3\\n'" 'exit 1'
+holds 'test: a roll call that ends at an absent station' refuses stored_roll_call called.txt 1
 program=$real
 holds 'test: no question at all' refuses each_question /dev/null
+holds 'test: no roll call at all' refuses each_roll_call /dev/null
 
 # adds LINE..: what tally.sh makes of a pass with these results
 adds() {

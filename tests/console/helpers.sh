@@ -123,6 +123,7 @@ words=(
     [13]='exit by a staying station'
     [14]='exit, leaving, NIDEC false'
     [15]='a bag that must receive holds 32'
+    [17]='more than 64 stations asked'
 )
 
 # say NUMBER FILE [DETAIL]: the line that says it, in $said; of 16 the detail is the reason

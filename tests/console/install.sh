@@ -17,7 +17,7 @@ functions=$(sed -n 's/.*[ *]\(station_line_[a-z_0-9]*\)(.*/\1/p' "$root/include/
 exported=$(nm -D --defined-only "$lib/libstation_line.so" | awk '{ print $3 }' | sort)
 holds 'the shared library exports what the header declares' [ "$exported" = "$functions" ]
 holds 'the shared library has its soname' [ "$(readelf -d "$lib/libstation_line.so" | sed -n 's/.*soname: \[\(.*\)\]$/\1/p')" = libstation_line.so.2 ]
-holds 'the example in Python' eval '"$python" "$root/examples/line.py" "$lib/libstation_line.so" > python.txt && same python.txt <(cat "$root/crates/listing/stdout"; echo "may 9 leave? held-by 7")'
+holds 'the example in Python' eval '"$python" "$root/examples/line.py" "$lib/libstation_line.so" > python.txt && same python.txt <(cat "$root/crates/listing/stdout"; printf "%s\n" "may 9 leave? held-by 7" "3 held-by 5" "5 held-by 3" "7 bag" "9 held-by 7")'
 
 into=$work/into
 makes() {
@@ -30,7 +30,7 @@ include/station_line_layout.h
 lib64/libstation_line.a
 lib64/libstation_line.so
 lib64/libstation_line.so.2
-lib64/libstation_line.so.2.0
+lib64/libstation_line.so.2.1
 lib64/pkgconfig/station-line.pc
 share/bash-completion/completions/station-line
 share/man/man1/station-line.1

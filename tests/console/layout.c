@@ -131,8 +131,9 @@ static void steps_by_hand(void) {
 int main(int argc, char **argv) {
     expect(strcmp(station_line_version(), STATION_LINE_VERSION) == 0, "is not that of the library", "the header's version");
     expect(strcmp(station_line_words(STATION_LINE_CHECK_WORD), "a check fails") == 0, "other words", "3");
-    expect(strcmp(station_line_words(16), station_line_words(17)) != 0 &&
-               strcmp(station_line_words(17), station_line_words(UINT32_MAX)) == 0,
+    expect(strcmp(station_line_words(STATION_LINE_TOO_MANY), "more than 64 stations asked") == 0, "other words", "17");
+    expect(strcmp(station_line_words(16), station_line_words(18)) != 0 &&
+               strcmp(station_line_words(18), station_line_words(UINT32_MAX)) == 0,
            "no words of its own", "16");
     expect(STATION_LINE_TABLE_BYTES == STATION_LINE_MOST_STATIONS * STATION_LINE_BLOCK_BYTES, "is not so many blocks",
            "the longest table");

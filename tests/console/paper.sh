@@ -38,6 +38,7 @@ input=table.bin try 'check from a pipe' 0 $'0\n' '' check -
 input=table.bin try 'view from a pipe' 0 "$viewed" '' view -
 input=table.bin try 'dump from a pipe' 0 "$example" '' dump table -
 input=table.bin try 'leave from a pipe' 1 $'held-by 5\n' '' leave - 7
+input=table.bin try 'roll-call from a pipe' 0 $'7 held-by 5\n5 bag\n' '' roll-call - 7 5
 input=table.bin try 'line from a pipe' 1 $'no\n' '' line -
 
 # "A block of station 5, staying, left none, right 9, one introduction of 7 ... the check word is 65,511 (bytes E7 FF)."

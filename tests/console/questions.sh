@@ -37,6 +37,7 @@ try 'its bag, with one' 1 $'bag\n' '' leave free.bin 9
 try 'check: the empty table' 0 $'0\n' '' check empty
 try 'line: the empty table' 0 $'yes\n' '' line empty
 try 'allowed: the empty table' 0 '' '' allowed empty
+try 'roll-call: the empty table' 0 '' '' roll-call empty
 try 'view: the empty table' 0 $'end\n' '' view empty
 try 'dump: the empty table' 0 '' '' dump table empty
 try 'dump: the empty list' 0 '' '' dump steps empty

@@ -11,4 +11,7 @@ group 'stored questions: yes, no or the number'
 [ "$pass" != sanitized ] || stride=5 # a sanitized program takes its time to begin; the other one is asked all of them
 each_question "$stored/questions"
 end
+group 'stored questions: those about one table in a roll call'
+each_roll_call "$stored/questions"
+end
 unset ASAN_OPTIONS

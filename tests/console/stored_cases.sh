@@ -1,4 +1,4 @@
-# One stored case each: a run of tests/situations.py, a table of tests/tables.py, a question.
+# One stored case each: a run of tests/situations.py, a table of tests/tables.py, a question, a roll call of questions.
 stored=$work/stored
 
 # stored_run CASE: status, listing, words and table are those of document 01, and dump and assemble give back table and list
@@ -41,6 +41,26 @@ stored_question() {
     *) ends 1 "${asked[@]}" && [ -z "$out" ] && [[ $err == "station-line: ${asked[1]}: $number: ${words[$number]}"* ]] ;;
     esac
 }
+# stored_roll_call FILE CASE: the leave questions of the file about that table in one call, at most 64 of them, have the answers that they have alone
+stored_roll_call() {
+    local station answer reason holder stations=() lines= number= file=$stored/run.$2.table
+    while read -r _ _ station answer reason holder; do
+        stations+=("$station")
+        case $answer:$reason in
+        0:1) lines+="$station yes"$'\n' ;;
+        0:2) lines+="$station bag"$'\n' ;;
+        0:3) lines+="$station held-by $holder"$'\n' ;;
+        11:0) lines+="$station absent"$'\n' ;;
+        *) number=$answer ;;
+        esac
+    done < <(grep "^$2 leave " "$1" | head -n 64)
+    [ "${#stations[@]}" -gt 0 ] || return
+    if [ -n "$number" ]; then
+        says 1 '' "station-line: $file: $number: ${words[$number]}"$'\n' roll-call "$file" "${stations[@]}"
+    else
+        says 0 "$lines" '' roll-call "$file" "${stations[@]}"
+    fi
+}
 # stored_check CASE: the number, with the status that goes with it
 stored_check() {
     local number
@@ -63,4 +83,13 @@ each_question() {
         [ $((asked % ${stride-1})) -ne 0 ] || holds "$question" stored_question $question
     done < "$1"
     holds 'a question was asked' [ "$asked" -gt 0 ]
+}
+# each_roll_call FILE: of every table that the file asks about, or every $stride-th
+each_roll_call() {
+    local case called=0
+    for case in $(cut -d ' ' -f 1 "$1" | sort -un); do
+        called=$((called + 1))
+        [ $((called % ${stride-1})) -ne 0 ] || holds "case $case" stored_roll_call "$1" "$case"
+    done
+    holds 'a roll was called' [ "$called" -gt 0 ]
 }

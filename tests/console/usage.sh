@@ -7,6 +7,7 @@ try 'done' 0 "$listing" '' run table.bin steps.bin
 try 'leave: yes' 0 $'yes\n' '' leave free.bin 7
 try 'line: yes' 0 $'yes\n' '' line straight.bin
 try 'allowed: nothing' 0 '' '' allowed empty
+try 'roll-call: whatever the lines say' 0 $'3 held-by 5\n5 bag\n6 absent\n' '' roll-call table.bin 3 5 6
 end
 group 'the exit status: 1 for any other answer, no among them'
 try 'leave: held' 1 $'held-by 5\n' '' leave table.bin 3
@@ -14,6 +15,8 @@ try 'leave: bag' 1 $'bag\n' '' leave table.bin 5
 try 'line: no' 1 $'no\n' '' line table.bin
 say 11 table.bin 'station 6'
 try 'leave: absent' 1 '' "$said" leave table.bin 6
+say 17 table.bin
+try 'roll-call: too many' 1 '' "$said" roll-call table.bin {1..65}
 holds 'a script goes no further where a station is held' eval '! { "$program" leave table.bin 3 > /dev/null && echo may go; } | grep -q may'
 end
 
@@ -27,8 +30,8 @@ try 'an empty command' 2 '' "$said" ''
 misuse --verbose 'no such option'
 try 'an unknown option' 2 '' "$said" --verbose
 group 'wrong use of each command'
-for use in 'check TABLE' 'run TABLE STEPS' 'allowed TABLE' 'leave TABLE NUMBER' 'line TABLE' 'view TABLE' 'draw TABLE' \
-    'assemble table|steps TEXT' 'dump table|steps FILE'; do
+for use in 'check TABLE' 'run TABLE STEPS' 'allowed TABLE' 'leave TABLE NUMBER' 'roll-call TABLE' 'line TABLE' 'view TABLE' \
+    'draw TABLE' 'assemble table|steps TEXT' 'dump table|steps FILE'; do
     set -- $use
     if [ $# -eq 2 ]; then given=(table.bin); else given=(table table.bin); fi
     misuse "$1" "$2 is missing" "$1"
@@ -36,7 +39,7 @@ for use in 'check TABLE' 'run TABLE STEPS' 'allowed TABLE' 'leave TABLE NUMBER' 
     misuse "$1" "${3:-$2} is missing" "$1"
     [ $# -eq 2 ] || try "$1: one word" 2 '' "$said" "$1" table
     misuse 5 'one word too many' "$1"
-    try "$1: too many" 2 '' "$said" "$1" "${given[@]}" 5
+    [ "$1" = roll-call ] || try "$1: too many" 2 '' "$said" "$1" "${given[@]}" 5
     misuse --quick 'no such option of this command' "$1"
     try "$1: an unknown option" 2 '' "$said" "$1" table.bin --quick
     case $1 in
@@ -64,15 +67,22 @@ misuse - "standard input can't be both the table and the step list" run
 try 'run: both from standard input' 2 '' "$said" run - -
 misuse '-o -' 'standard output takes the listing' run
 try 'run: -o -' 2 '' "$said" run table.bin steps.bin -o -
-group 'leave: what is no number'
-for number in five 5x x5 +5 ' 5' '5 ' 5.0 0x5 '' -5; do
-    misuse "$number" 'a station number is expected' leave
-    try "'$number'" 2 '' "$said" leave -- table.bin "$number"
+for command in leave roll-call; do
+    group "$command: what is no number"
+    for number in five 5x x5 +5 ' 5' '5 ' 5.0 0x5 '' -5; do
+        misuse "$number" 'a station number is expected' $command
+        try "'$number'" 2 '' "$said" $command -- table.bin "$number"
+    done
+    misuse -5 'no such option of this command' $command
+    try 'an option for a number' 2 '' "$said" $command table.bin -5
+    end
 done
-misuse -5 'no such option of this command' leave
-try 'an option for a number' 2 '' "$said" leave table.bin -5
+group 'what is asked of many stations, or of one'
+misuse five 'a station number is expected' roll-call
+try 'roll-call: the last of many is no number' 2 '' "$said" roll-call table.bin {1..99} five
+try 'roll-call: a number is wanted before the table is read' 2 '' "$said" roll-call missing 5 five
 misuse leave 'NUMBER is missing' leave
-try 'nothing after --' 2 '' "$said" leave table.bin --
+try 'leave: nothing after --' 2 '' "$said" leave table.bin --
 end
 
 # Options in every form.
@@ -88,7 +98,7 @@ end
 # Help: on standard output, status 0, wherever it is asked for.
 help=$("$program" --help)$'\n'
 run_help=$("$program" help run)$'\n'
-holds 'help names every command' eval 'for c in check run allowed leave line view draw assemble dump; do [[ $help == *$'"'\n  '"'"$c "* ]] || exit 1; done'
+holds 'help names every command' eval 'for c in check run allowed leave roll-call line view draw assemble dump; do [[ $help == *$'"'\n  '"'"$c "* ]] || exit 1; done'
 holds 'help tells the exit status' grep -q '0 done, accepted or yes; 1 any other answer, no among them' <<< "${help//$'\n'/ }"
 group 'help, -h and --help anywhere'
 try --help 0 "$help" '' --help
@@ -106,7 +116,7 @@ misuse fly 'no such command'
 try 'help of no command' 2 '' "$said" help fly
 end
 group 'help of each command begins with its use'
-for c in check run allowed leave line view draw assemble dump; do
+for c in check run allowed leave roll-call line view draw assemble dump; do
     holds "$c" eval 'ends 0 help "$c" && [[ $out == "usage: station-line $c "* ]] && [ -z "$err" ]'
 done
 end
