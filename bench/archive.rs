@@ -1,20 +1,12 @@
 //! The archive through its C interface (include/station_line.h).
 
-use crate::tuned::Ran;
+use crate::tuned::{Leave, Ran};
 
 #[repr(C)]
 #[derive(Clone, Copy)]
 struct Filled {
     answer: u32,
     filled: u32,
-}
-
-#[repr(C)]
-#[derive(Clone, Copy)]
-struct Leave {
-    answer: u32,
-    reason: u32,
-    holder: u32,
 }
 
 #[repr(C)]
@@ -41,6 +33,14 @@ unsafe extern "C" {
         room_len: usize,
     ) -> Filled;
     fn station_line_may_leave(table: *const u8, table_len: usize, station: u32) -> Leave;
+    fn station_line_roll_call(
+        table: *const u8,
+        table_len: usize,
+        stations: *const u32,
+        stations_len: usize,
+        records: *mut Leave,
+        records_len: usize,
+    ) -> Filled;
     fn station_line_in_line(table: *const u8, table_len: usize) -> Told;
 }
 
@@ -63,17 +63,37 @@ pub fn run(table: &[u8], steps: &[u8], room: &mut [u8]) -> Ran {
     }
 }
 
-/// The steps filled, or the number of a refusal, which fills none.
+impl Filled {
+    /// What is filled, or the number of a refusal, which fills nothing.
+    fn count(self) -> Result<usize, u32> {
+        match self.answer {
+            0 => Ok(self.filled as usize),
+            number => {
+                assert_eq!(self.filled, 0);
+                Err(number)
+            }
+        }
+    }
+}
+
 pub fn allowed(table: &[u8], room: &mut [u8]) -> Result<usize, u32> {
     let filled =
         unsafe { station_line_allowed(table.as_ptr(), table.len(), room.as_mut_ptr(), room.len()) };
-    match filled.answer {
-        0 => Ok(filled.filled as usize),
-        number => {
-            assert_eq!(filled.filled, 0);
-            Err(number)
-        }
-    }
+    filled.count()
+}
+
+pub fn roll_call(table: &[u8], stations: &[u32], records: &mut [Leave]) -> Result<usize, u32> {
+    let filled = unsafe {
+        station_line_roll_call(
+            table.as_ptr(),
+            table.len(),
+            stations.as_ptr(),
+            stations.len(),
+            records.as_mut_ptr(),
+            records.len(),
+        )
+    };
+    filled.count()
 }
 
 /// The reason and the holder, or the number of a refusal.

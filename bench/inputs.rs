@@ -1,4 +1,4 @@
-//! What is measured: nine lines, each with a table, a step list and a question, all drawn from one fixed seed.
+//! What is measured: thirteen lines, each with a table, a step list and questions, all drawn from one fixed seed.
 
 use model::Action::{Deliver, Exit, Timeout};
 use model::{MOST_MESSAGES, Step, Table, apply, effect, nidec, read_table, write_step};
@@ -16,6 +16,9 @@ pub enum Call {
     Allowed,
     MayLeave,
     InLine,
+    RollCall,
+    /// The questions of a roll call, each in a call of its own.
+    OneByOne,
 }
 
 pub struct Input {
@@ -23,14 +26,35 @@ pub struct Input {
     pub call: Call,
     pub table: Vec<u8>,
     pub steps: Vec<u8>,
+    /// What the leave question is asked about, and the roll call.
     pub station: u32,
+    pub stations: Vec<u32>,
 }
 
-pub const LINES: usize = 9;
+impl Input {
+    /// With no steps, and no station to ask about.
+    fn of(name: &'static str, call: Call, blocks: &[Block]) -> Input {
+        Input {
+            name,
+            call,
+            table: bytes(blocks),
+            steps: Vec::new(),
+            station: 0,
+            stations: Vec::new(),
+        }
+    }
+}
+
+pub const LINES: usize = 13;
+
+/// The lines with a roll call; the one behind each has the same questions about the same table, asked one by one.
+pub const ROLL_CALLS: [usize; 2] = [9, 11];
 
 /// One line, drawn without those before it.
 pub fn line(number: usize) -> Input {
-    let random = &mut Random::of_case(2026, number as u64);
+    let same_table = number > 0 && ROLL_CALLS.contains(&(number - 1));
+    let drawn = number - usize::from(same_table);
+    let random = &mut Random::of_case(2026, drawn as u64);
     match number {
         0 => plain(random, "check, 64 full blocks", Call::Check),
         1 => run_of(random, "run, 4,096 steps, mixed", [594, 400, 6]),
@@ -44,7 +68,26 @@ pub fn line(number: usize) -> Input {
         5 => plain(random, "in_line, 64 full blocks in line", Call::InLine),
         6 => plain(random, "run, 64 full blocks, empty list", Call::Run),
         7 => different(random, "allowed, 64 full bags", 32),
-        _ => different(random, "allowed, 64 bags of 31 in line", 31),
+        8 => different(random, "allowed, 64 bags of 31 in line", 31),
+        9 => called(random, "roll_call, 64 full blocks", Call::RollCall, 64),
+        10 => called(
+            random,
+            "may_leave 64 times, 64 full blocks",
+            Call::OneByOne,
+            64,
+        ),
+        11 => called(
+            random,
+            "roll_call, 32 full blocks, 32 yes",
+            Call::RollCall,
+            32,
+        ),
+        _ => called(
+            random,
+            "may_leave 64 times, 32 full blocks",
+            Call::OneByOne,
+            32,
+        ),
     }
 }
 
@@ -89,12 +132,37 @@ fn plain(random: &mut Random, name: &'static str, call: Call) -> Input {
         block.bag = messages(random, 32, &numbers);
     }
     shuffle(random, &mut blocks);
+    Input::of(name, call, &blocks)
+}
+
+/// Gives a block its neighbours among the stations that are named, which rise; whether it is one of them.
+fn put_beside(block: &mut Block, named: &[u32]) -> bool {
+    let at = named.partition_point(|&number| number < block.station);
+    let own = named.get(at) == Some(&block.station);
+    block.left = if at == 0 { 0 } else { named[at - 1] };
+    block.right = named.get(at + usize::from(own)).copied().unwrap_or(0);
+    own
+}
+
+/// 64 stations, every one of them asked about, in any order. So many have full bags, and these alone are named; so the others may all
+/// leave, and of each of them every message is looked at.
+fn called(random: &mut Random, name: &'static str, call: Call, full: usize) -> Input {
+    let mut blocks = in_line(random);
+    let mut stations = numbers(&blocks);
+    random.shuffle(&mut stations);
+    let mut named = stations[..full].to_vec();
+    named.sort_unstable();
+    for block in &mut blocks {
+        let own = put_beside(block, &named);
+        if own {
+            block.bag = messages(random, 32, &named);
+        }
+    }
+    shuffle(random, &mut blocks);
+    random.shuffle(&mut stations);
     Input {
-        name,
-        call,
-        table: bytes(&blocks),
-        steps: Vec::new(),
-        station: 0,
+        stations,
+        ..Input::of(name, call, &blocks)
     }
 }
 
@@ -112,13 +180,7 @@ fn different(random: &mut Random, name: &'static str, count: usize) -> Input {
         }
     }
     shuffle(random, &mut blocks);
-    Input {
-        name,
-        call: Call::Allowed,
-        table: bytes(&blocks),
-        steps: Vec::new(),
-        station: 0,
-    }
+    Input::of(name, Call::Allowed, &blocks)
 }
 
 /// 63 full blocks that do not name the last station, whose bag is empty: every message is looked at before the yes.
@@ -131,11 +193,8 @@ fn unnamed(random: &mut Random) -> Input {
     }
     shuffle(random, &mut blocks);
     Input {
-        name: "may_leave, 63 full blocks, yes",
-        call: Call::MayLeave,
-        table: bytes(&blocks),
-        steps: Vec::new(),
         station: numbers[STATIONS - 1],
+        ..Input::of("may_leave, 63 full blocks, yes", Call::MayLeave, &blocks)
     }
 }
 
@@ -149,10 +208,7 @@ fn run_of(random: &mut Random, name: &'static str, weights: [usize; 3]) -> Input
     named.truncate(STATIONS - departing);
     named.sort_unstable();
     for block in &mut blocks {
-        let at = named.partition_point(|&number| number < block.station);
-        let own = named.get(at) == Some(&block.station);
-        block.left = if at == 0 { 0 } else { named[at - 1] };
-        block.right = named.get(at + usize::from(own)).copied().unwrap_or(0);
+        let own = put_beside(block, &named);
         block.leaving = departing > 0 && (!own || random.percent(33));
         if own {
             let count = random.from_to(0, 16);
@@ -160,24 +216,17 @@ fn run_of(random: &mut Random, name: &'static str, weights: [usize; 3]) -> Input
         }
     }
     shuffle(random, &mut blocks);
-    let table = bytes(&blocks);
-    let mut now = read_table(&table).expect("it is accepted");
-    let mut steps = Vec::new();
-    while steps.len() < 12 * STEPS {
+    let mut input = Input::of(name, Call::Run, &blocks);
+    let mut now = read_table(&input.table).expect("it is accepted");
+    while input.steps.len() < 12 * STEPS {
         if let Some(step) = some_step(random, &now, weights)
             && let Ok(effect) = effect(&now, step)
         {
             apply(&mut now, effect);
-            steps.extend(write_step(step));
+            input.steps.extend(write_step(step));
         }
     }
-    Input {
-        name,
-        call: Call::Run,
-        table,
-        steps,
-        station: 0,
-    }
+    input
 }
 
 fn some_step(random: &mut Random, now: &Table, weights: [usize; 3]) -> Option<Step> {
@@ -222,10 +271,7 @@ fn exits(random: &mut Random) -> Input {
         })
     });
     Input {
-        name: "run, 62 exits of 64 stations",
-        call: Call::Run,
-        table: bytes(&blocks),
         steps: steps.collect(),
-        station: 0,
+        ..Input::of("run, 62 exits of 64 stations", Call::Run, &blocks)
     }
 }

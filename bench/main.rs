@@ -1,9 +1,9 @@
 //! The archive, the plain model of tests/model and the tuned version side by side, in one run.
 //!
 //!   bench                       checks the three against each other, then prints the table of times
-//!   bench --line K WHO CALLS    only so many calls of line K (0 to 8) by archive, model or tuned: for counting instructions
-//!   bench --save DIRECTORY      the table of every line that is a run, with its step list, or a list of allowed steps, as files: for measuring
-//!                               the stack
+//!   bench --line K WHO CALLS    only so many calls of line K (0 to 12) by archive, model or tuned: for counting instructions
+//!   bench --save DIRECTORY      the table of every line that is a run, with its step list, a list of allowed steps, or a roll call, with
+//!                               its questions, as files: for measuring the stack
 //!   bench --names               the names of the lines
 #![deny(warnings)]
 
@@ -27,8 +27,9 @@ use std::hint::black_box;
 use std::process::ExitCode;
 use std::time::Instant;
 
-use inputs::{Call, Input, LINES};
+use inputs::{Call, Input, LINES, ROLL_CALLS};
 use random::Random;
+use tuned::Leave;
 
 const WHO: [&str; 3] = ["archive", "model", "tuned"];
 const ROUNDS: usize = 400;
@@ -50,16 +51,7 @@ fn main() -> ExitCode {
         }
         ["--save", directory] => {
             for k in 0..LINES {
-                let input = inputs::line(k);
-                let save = |what: &str, bytes: &[u8]| {
-                    std::fs::write(format!("{directory}/{k}.{what}"), bytes).expect("written");
-                };
-                if let Call::Run | Call::Allowed = input.call {
-                    save("table", &input.table);
-                }
-                if let Call::Run = input.call {
-                    save("steps", &input.steps);
-                }
+                save(&inputs::line(k), &format!("{directory}/{k}"));
             }
         }
         ["--line", line, who, calls] => {
@@ -80,6 +72,23 @@ fn main() -> ExitCode {
     ExitCode::SUCCESS
 }
 
+/// The files of one line, whose names begin so.
+fn save(input: &Input, path: &str) {
+    let write = |what: &str, bytes: &[u8]| {
+        std::fs::write(format!("{path}.{what}"), bytes).expect("written");
+    };
+    if let Call::Run | Call::Allowed | Call::RollCall = input.call {
+        write("table", &input.table);
+    }
+    if let Call::Run = input.call {
+        write("steps", &input.steps);
+    }
+    if let Call::RollCall = input.call {
+        let numbers = input.stations.iter().flat_map(|n| n.to_le_bytes());
+        write("questions", &numbers.collect::<Vec<u8>>());
+    }
+}
+
 fn usage() -> ExitCode {
     eprintln!(
         "bench [--names] [--save DIRECTORY] [--line K WHO CALLS]; WHO is archive, model or tuned"
@@ -91,6 +100,8 @@ fn usage() -> ExitCode {
 fn call(who: usize, input: &Input, room: &mut [u8]) {
     let (table, steps) = (black_box(&input.table[..]), black_box(&input.steps[..]));
     let station = black_box(input.station);
+    let stations = black_box(&input.stations[..]);
+    let mut records = [Leave::default(); inputs::STATIONS];
     match (input.call, who) {
         (Call::Check, 0) => drop(black_box(archive::check(table))),
         (Call::Check, 1) => drop(black_box(model::check(table))),
@@ -107,8 +118,22 @@ fn call(who: usize, input: &Input, room: &mut [u8]) {
         (Call::InLine, 0) => drop(black_box(archive::in_line(table))),
         (Call::InLine, 1) => drop(black_box(model::in_line(table))),
         (Call::InLine, _) => drop(black_box(tuned::in_line(table))),
+        (Call::RollCall, 0) => drop(black_box(archive::roll_call(table, stations, &mut records))),
+        (Call::RollCall, 1) => drop(black_box(model::roll_call(table, stations, records.len()))),
+        (Call::RollCall, _) => drop(black_box(tuned::roll_call(table, stations, &mut records))),
+        (Call::OneByOne, _) => one_by_one(who, table, stations),
     }
-    black_box(room);
+    black_box((room, records));
+}
+
+fn one_by_one(who: usize, table: &[u8], stations: &[u32]) {
+    for &station in stations {
+        match who {
+            0 => drop(black_box(archive::may_leave(table, station))),
+            1 => drop(black_box(model::may_leave(table, station))),
+            _ => drop(black_box(tuned::may_leave(table, station))),
+        }
+    }
 }
 
 /// The model's list of allowed steps as it goes to a room of this length.
@@ -121,37 +146,75 @@ fn compare() {
     for k in 0..LINES {
         let input = inputs::line(k);
         alike(&input.table, &input.steps, input.table.len(), input.station);
-        // Every step of a measured list is done, both questions are answered with yes, and every message of a bag may be delivered: nothing
-        // ends early.
-        let ran = model::run(&input.table, &input.steps, input.table.len());
-        assert_eq!((ran.answer, ran.done), (0, input.steps.len() / model::STEP));
-        match input.call {
-            Call::MayLeave => {
-                let leave = model::may_leave(&input.table, input.station);
-                assert_eq!(leave, Ok(model::Leave::Yes));
-            }
-            Call::InLine => assert_eq!(model::in_line(&input.table), Ok(true)),
-            Call::Allowed => {
-                let messages = input.table.chunks(model::BLOCK).map(|block| block[16]);
-                let steps = messages.map(|count| 1 + usize::from(count)).sum();
-                assert_eq!(
-                    model::allowed(&input.table).map(|list| list.len()),
-                    Ok(steps)
-                );
-            }
-            Call::Check | Call::Run => {}
-        }
+        alike_calls(&input.table, &input.stations, input.stations.len());
+        goes_all_the_way(&input);
     }
-    let mut met = [0u64; 16];
+    let (mut met, mut called) = ([0u64; 16], [0u64; 18]);
     for case in 0..CASES {
         let random = &mut Random::of_case(7, case);
         let (table, steps, room, station) = any_case(random);
         met[alike(&table, &steps, room, station) as usize] += 1;
+        let (stations, records) = any_call(random, &table, station);
+        called[alike_calls(&table, &stations, records) as usize] += 1;
     }
     assert!(met.iter().all(|&times| times > 0), "never met: {met:?}");
-    println!(
-        "the three agree on the inputs below and on {CASES} random cases with every answer from 0 to 15"
+    assert!(
+        [0, 1, 2, 3, 4, 5, 6, 7, 9, 17]
+            .iter()
+            .all(|&k| called[k] > 0)
     );
+    println!(
+        "the three agree on the inputs below and on {CASES} random cases with every answer from 0 to 15, and 17 of a roll call"
+    );
+}
+
+/// Every step of a measured list is done, both questions are answered with yes, a roll call with yes for every station whose bag is empty, and
+/// every message of a bag may be delivered: nothing ends early.
+fn goes_all_the_way(input: &Input) {
+    let table = &input.table[..];
+    let ran = model::run(table, &input.steps, table.len());
+    assert_eq!((ran.answer, ran.done), (0, input.steps.len() / model::STEP));
+    let messages = table
+        .chunks(model::BLOCK)
+        .map(|block| usize::from(block[16]));
+    match input.call {
+        Call::MayLeave => {
+            let leave = model::may_leave(table, input.station);
+            assert_eq!(leave, Ok(model::Leave::Yes));
+        }
+        Call::InLine => assert_eq!(model::in_line(table), Ok(true)),
+        Call::Allowed => {
+            let steps = messages.map(|count| 1 + count).sum();
+            assert_eq!(model::allowed(table).map(|list| list.len()), Ok(steps));
+        }
+        Call::RollCall | Call::OneByOne => {
+            let empty = messages.filter(|&count| count == 0).count();
+            let records = model::roll_call(table, &input.stations, 64).expect("64 records");
+            let yes = records.iter().filter(|r| **r == Ok(model::Leave::Yes));
+            assert_eq!((yes.count(), records.len()), (empty, 64));
+        }
+        Call::Check | Call::Run => {}
+    }
+}
+
+/// Up to 67 questions, most of them about stations of the table, and how many records there are for them.
+fn any_call(random: &mut Random, table: &[u8], station: u32) -> (Vec<u32>, usize) {
+    let blocks: Vec<&[u8]> = table.chunks_exact(model::BLOCK).collect();
+    let stations: Vec<u32> = (0..random.below(68))
+        .map(|_| match blocks.is_empty() || random.percent(10) {
+            true => station,
+            false => {
+                let block = random.pick(&blocks);
+                u32::from_le_bytes([block[4], block[5], block[6], block[7]])
+            }
+        })
+        .collect();
+    let records = match random.below(8) {
+        0 => stations.len().saturating_sub(1),
+        1 => stations.len() + 3,
+        _ => stations.len(),
+    };
+    (stations, records)
 }
 
 fn any_case(random: &mut Random) -> (Vec<u8>, Vec<u8>, usize, u32) {
@@ -196,7 +259,7 @@ fn any_case(random: &mut Random) -> (Vec<u8>, Vec<u8>, usize, u32) {
     (table, list, room, station)
 }
 
-/// All five functions on one input; the number the run answers.
+/// All functions but the roll call on one input; the number the run answers.
 fn alike(table: &[u8], steps: &[u8], room: usize, station: u32) -> u32 {
     let ran = model::run(table, steps, room);
     let (reason, holder) = reasons::of_run(ran.reason);
@@ -239,39 +302,81 @@ fn alike_lists(table: &[u8], room: usize) {
     assert!(rooms[0] == after && rooms[1] == after, "other bytes");
 }
 
-/// The best time of a call in many rounds, in which the three take turns. A round times enough calls for the clock.
+/// A roll call into so many records, and what it answers.
+fn alike_calls(table: &[u8], stations: &[u32], records: usize) -> u32 {
+    let untouched = Leave {
+        answer: u32::MAX,
+        reason: u32::MAX,
+        holder: u32::MAX,
+    };
+    let called = model::roll_call(table, stations, records);
+    let told = called.iter().flatten().map(|record| {
+        let (reason, holder) = record.map_or((reasons::NO_REASON, 0), reasons::of_leave);
+        let answer = record.err().unwrap_or(0);
+        Leave {
+            answer,
+            reason,
+            holder,
+        }
+    });
+    let mut after: Vec<Leave> = told.collect();
+    after.resize(records, untouched);
+    let filled = called.map(|records| records.len());
+    let mut rooms = [vec![untouched; records], vec![untouched; records]];
+    assert_eq!(archive::roll_call(table, stations, &mut rooms[0]), filled);
+    assert_eq!(tuned::roll_call(table, stations, &mut rooms[1]), filled);
+    assert!(rooms[0] == after && rooms[1] == after, "other records");
+    filled.err().unwrap_or(0)
+}
+
+/// The best time of a call in many rounds, in which the three take turns, in microseconds. A round times enough calls for the clock.
+fn best(input: &Input) -> [f64; 3] {
+    let mut room = vec![PATTERN; input.table.len()];
+    let mut best = [f64::INFINITY; 3];
+    let mut calls = [1usize; 3];
+    for round in 0..ROUNDS {
+        for who in 0..3 {
+            let started = Instant::now();
+            for _ in 0..calls[who] {
+                call(who, input, &mut room);
+            }
+            let one = started.elapsed().as_secs_f64() * 1e6 / calls[who] as f64;
+            best[who] = best[who].min(one);
+            if round < 10 {
+                calls[who] = ((100.0 / best[who]) as usize).clamp(1, 1000);
+            }
+        }
+    }
+    best
+}
+
 fn measure() {
     println!();
     println!(
         "{:<42} {:>10} {:>10} {:>10} {:>8} {:>8}",
         "microseconds, best of many", "archive", "model", "tuned", "a/model", "a/tuned"
     );
+    let mut times = Vec::new();
     for k in 0..LINES {
         let input = inputs::line(k);
-        let mut room = vec![PATTERN; input.table.len()];
-        let mut best = [f64::INFINITY; 3];
-        let mut calls = [1usize; 3];
-        for round in 0..ROUNDS {
-            for who in 0..3 {
-                let started = Instant::now();
-                for _ in 0..calls[who] {
-                    call(who, &input, &mut room);
-                }
-                let one = started.elapsed().as_secs_f64() * 1e6 / calls[who] as f64;
-                best[who] = best[who].min(one);
-                if round < 10 {
-                    calls[who] = ((100.0 / best[who]) as usize).clamp(1, 1000);
-                }
-            }
-        }
+        let [archive, model, tuned] = best(&input);
         println!(
-            "{:<42} {:>10.2} {:>10.2} {:>10.2} {:>8.2} {:>8.2}",
+            "{:<42} {archive:>10.2} {model:>10.2} {tuned:>10.2} {:>8.2} {:>8.2}",
             input.name,
-            best[0],
-            best[1],
-            best[2],
-            best[0] / best[1],
-            best[0] / best[2]
+            archive / model,
+            archive / tuned
+        );
+        times.push([archive, model, tuned]);
+    }
+    println!();
+    for k in ROLL_CALLS {
+        let in_questions = |who: usize| times[k][who] * 64.0 / times[k + 1][who];
+        println!(
+            "{}: as long as {:.2} single questions of the archive, {:.2} of the model, {:.2} of the tuned version",
+            inputs::line(k).name,
+            in_questions(0),
+            in_questions(1),
+            in_questions(2)
         );
     }
 }
