@@ -78,7 +78,7 @@ module _ (t index : List ℕ) (clean : faultOf t ≡ 0) (listed : index ≡ inde
     told-there = rw (counted-there, least-there, full, named) (block-told t s clean (mem-map nodeOf (block-member t slot (slot-within t index clean listed i h))))
 
     -- in an array of which the counts are the front
-    pub leave-there : (r : Roll) → take (length t / 512) (r .index) ≡ index → r .messages ≡ countsOf t → (a b : List ℕ) → r .mentions ≡ counts ++ a → r .smallest ≡ smallest ++ b
+    leave-there : (r : Roll) → take (length t / 512) (r .index) ≡ index → r .messages ≡ countsOf t → (a b : List ℕ) → r .mentions ≡ counts ++ a → r .smallest ≡ smallest ++ b
         → Told (leaveIn r i) ≡ mayLeave t (getD (numbersIn index) i 0)
     unfolding leaveIn
     leave-there r front full′ a b c l =
