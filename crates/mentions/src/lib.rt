@@ -1,6 +1,6 @@
 // How often the stations of a table are mentioned by others, and by which smallest station, counted in one pass over the blocks (document 02,
 // T-03: "Mentions are counted once from the table").
-pub mod places;
+mod places;
 
 use block::places::place_at;
 use block::station_of;
