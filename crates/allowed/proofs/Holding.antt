@@ -27,7 +27,7 @@ use Rattle.fields.proofs.Contents.{Says, place-says}
 use Rattle.block.specs.Layout.{placeAt, messages, nodeOf, faultOf}
 use Rattle.block.proofs.FieldLaws.{field-facts, no-fault, no-fault-count}
 use Rattle.block.proofs.PlaceLaws.{good-below}
-use Rattle.leave.proofs.Holding.{any-suc}
+use Rattle.block.proofs.Asking.{any-suc}
 use Rattle.allowed.specs.Parts.{Small, ofKind}
 
 -- A counted place says its message's kind and number.

@@ -1,4 +1,5 @@
 -- Laws that belong to no one function.
 pub mod PlaceLaws
+pub mod Asking
 pub mod FieldLaws
 pub mod Ways

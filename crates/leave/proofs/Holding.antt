@@ -44,56 +44,6 @@ module _ (p : ℕ) (m : Message) where
   unfolding same
   is-remove-right e = rw e
 
--- Whether some of the first n messages passes a test.
-module _ (f : Message → Bool) (b : List ℕ) where
-  pub any-suc : (n : ℕ) → any f (messages b (suc n)) ≡ (any f (messages b n) || f (messageOf (placeAt b n)))
-  unfolding messages any
-  any-suc n = any-append f (messages b n) (messageOf (placeAt b n) ∷ []) ∙ ap (λ (t : Bool). any f (messages b n) || t) (or-false (f (messageOf (placeAt b n))))
-
-  any-found : (i n : ℕ) → i < n → f (messageOf (placeAt b i)) ≡ true → any f (messages b n) ≡ true
-  any-found i zero h e = absurd (not-suc-le-zero h)
-  any-found i (suc n) h e =
-      any-suc n
-      ∙ ⊎-elim
-      (λ (p : i ≡ n). rw (← p, e, or-true))
-      (λ (p : i < n). rw (any-found i n p e))
-      (eq-or-lt-of-le (le-of-suc-le-suc h))
-
--- none of the first i of the n counted places introduces p
-pub record PlacesTo (p : ℕ) (b : List ℕ) (n i : ℕ) : Type 0 where
-  pub within : i ≤ n
-  pub few : n ≤ 32
-  pub counted : n ≡ word b 16
-  pub none : holds (introduction p) (messages b i) ≡ false
-
-pub places-none : (p : ℕ) (b : List ℕ) {n : ℕ} → n ≡ word b 16 → word b 16 ≤ 32 → PlacesTo p b n 0
-unfolding messages any
-places-none p b e h = record { within = omega arith; few = omega arith; counted = e; none = refl }
-
-module _ {p : ℕ} {b : List ℕ} {n i : ℕ} (so-far : PlacesTo p b n i) where
-  -- place i is asked
-  module _ (h : i < n) {x : Place} (read : x ≡ placeAt b i) {m : Message} (is : m ≡ messageOf x) {t : Bool} (tells : t ≡ same (introduction p) m) where
-    here : same (introduction p) (messageOf (placeAt b i)) ≡ t
-    here = sym (rw (is, read) at tells)
-
-    pub places-next : t ≡ false → PlacesTo p b n (i + 1)
-    places-next e = record {
-      within = omega arith;
-      few = so-far .few;
-      counted = so-far .counted;
-      none = rw (add-one i, any-suc (same (introduction p)) b i, so-far .none, here, e);
-    }
-
-    pub places-found : t ≡ true → true ≡ holds (introduction p) (messages b (word b 16))
-    places-found e = let c = so-far .counted in sym (any-found (same (introduction p)) b i (word b 16) (omega arith) (here ∙ e))
-
-  pub places-all : n ≤ i → false ≡ holds (introduction p) (messages b (word b 16))
-  places-all h =
-      let w = so-far .within in
-      let c = so-far .counted in
-      let e : i ≡ word b 16 = omega arith in
-      sym (rw e at (so-far .none))
-
 -- Whether the station of a block holds p: it is p itself; p is its left; its right; its messages tell.
 module _ (p : ℕ) (b : List ℕ) {s : declared.Station} (is : s ≡ stationOf b) where
   of-block : isHolder p (record { station = s; bag = messages b (word b 16) }) ≡ isHolder p (nodeOf b)

@@ -22,7 +22,7 @@ use Rattle.line.proofs.Changes.{found, present-found}
 use Rattle.line.proofs.LeaveTest.{leave-tested}
 use Rattle.table.specs.Blocks.{nodes, lineOf}
 use Rattle.table.specs.Fault.{faultOf}
-use Rattle.questions.proofs.Meanings.{nodes-back, alike-back, same-neighbour, partner, reading-alike, answered}
+use Rattle.questions.proofs.Meanings.{nodes-back, alike-back, same-neighbour, same-messages, partner, reading-alike, answered}
 use Rattle.leave.specs.declared.LeaveTold.the-variants.{Refused, Told}
 use Rattle.leave.specs.Leave.{leaveAt, mayLeave}
 use Rattle.leave.specs.Claims.{MayLeaveMeans}
@@ -34,16 +34,10 @@ nothing-in (m ∷ b) h = absurd (h m (here refl))
 
 -- Of alike nodes:
 module _ {s t : Node} (h : AlikeNodes s t) where
-  -- what is in one bag is in the other
-  same-messages : {m : Message} → Member m (s .bag) → Member m (t .bag)
-  same-messages {m} k =
-      let w = counted (same m) (t .bag) (rw (← (h .bag m)) (counts-one (same m) k (same-refl m))) in
-      Memᴰ·cast (same-true m (w .0) (w .2)) (w .1)
-
-  -- so the links are
+  -- the links are the same
   same-links : {q : ℕ} → Linked s q → Linked t q
   same-links (by-neighbour d e) = by-neighbour d (sym (same-neighbour h d) ∙ e)
-  same-links (by-introduction m) = by-introduction (same-messages m)
+  same-links (by-introduction m) = by-introduction (same-messages h m)
 
 -- an empty bag is empty in the alike node
 same-empty : {s t : Node} → AlikeNodes s t → s .bag ≡ [] → t .bag ≡ []

@@ -1,21 +1,25 @@
--- The test `inLine` of a line in written order says what In line says.
+-- The tests of a line in written order say what In line says: of its neighbours, of its bags, of its marks.
 use mathlib.Core.Path.{_≡_, refl, sym, ap}
 use mathlib.Core.Logic.{_↔_, _⊎_, inl, inr, ⊎-elim}
-use mathlib.Core.Bool.{true, _&&_}
-use mathlib.Core.List.{[], _∷_, List·Memᴰ·not-nil, List·Memᴰ·cases-cons}
+use mathlib.Core.Bool.{true, not, _&&_}
+use mathlib.Core.List.{[], _∷_, List·Memᴰ·not-nil, List·Memᴰ·cases-cons, Memᴰ·cast}
 use mathlib.Core.List.{List·Memᴰ as Member, List·Memᴰ·head as here, List·Memᴰ·tail as there}
 use Prim.Native.Nat.{ℕ, _<_, _≤_}
 use native.Mathlib.Omega.{arith}
-use borrow.Author.Tests.{eqb-true, eq-eqb}
+use borrow.Author.Tests.{eqb-true, eq-eqb, not-true}
 use Rattle.line.specs.declared.Neighbour.{Neighbour}
 use Rattle.line.specs.declared.Neighbour.the-variants.{None, Station}
 use Rattle.line.specs.declared.Side.{Side}
 use Rattle.line.specs.declared.Side.the-variants.{Left, Right}
-use Rattle.line.specs.Node.{Node, Line, number, numbers, Present, Beyond, neighbour}
+use Rattle.line.specs.declared.Message.{Message}
+use Rattle.line.specs.Message.{removal, same, isRemoval}
+use Rattle.line.specs.Node.{Node, Line, number, numbers, leaving, Present, Beyond, neighbour}
+use Rattle.lists.specs.Lists.{all, any}
 use Rattle.lists.specs.Numbers.{Rising}
-use Rattle.line.specs.InLine.{IsNext, isSame, first, inLineAfter, inLine}
-use Rattle.line.specs.Claims.{InLineTested}
-use Rattle.lists.proofs.Lists.{clash, and-both, both-and}
+use Rattle.line.specs.InLine.{IsNext, Quiet, AllStay, isSame, first, neighboursAfter, neighboursInLine, isQuiet, stays, inLine}
+use Rattle.line.specs.Claims.{NeighboursTested, InLineTested}
+use Rattle.lists.proofs.Lists.{clash, and-both, both-and, or-cases, or-right, fails, all-true, true-all, any-true, true-any}
+use Rattle.line.proofs.Messages.{same-true, same-refl}
 use Rattle.line.proofs.Sides.{none-station, station-inj}
 
 pub is-same : (a b : Neighbour) → (isSame a b ≡ true) ↔ (a ≡ b)
@@ -100,34 +104,68 @@ after-is-next whole prev s (t ∷ l) w = record {
 
 -- the walk finds each neighbour equal to the next station on its side
 module _ (whole : Line) where
-  walked : (prev : Neighbour) (l : Line) → Walk whole prev l → inLineAfter prev l ≡ true
+  walked : (prev : Neighbour) (l : Line) → Walk whole prev l → neighboursAfter prev l ≡ true
       → (s : Node) → Member s l → (d : Side) → IsNext whole d (number s) (neighbour d (s .station))
-  unfolding inLineAfter
+  unfolding neighboursAfter
   walked prev [] w e s m d = absurd (List·Memᴰ·not-nil m)
   walked prev (t ∷ l) w e s m d = ⊎-elim (λ (z : s ≡ t). rw z (at d)) (λ k. walked (Station (number t)) l (step-on whole t l prev w) (rest .1) s k d) (List·Memᴰ·cases-cons m)
     where
-      parts : (isSame (t .station .left) prev ≡ true) × ((isSame (t .station .right) (first l) && inLineAfter (Station (number t)) l) ≡ true)
-      parts = and-both (isSame (t .station .left) prev) (isSame (t .station .right) (first l) && inLineAfter (Station (number t)) l) e
+      parts : (isSame (t .station .left) prev ≡ true) × ((isSame (t .station .right) (first l) && neighboursAfter (Station (number t)) l) ≡ true)
+      parts = and-both (isSame (t .station .left) prev) (isSame (t .station .right) (first l) && neighboursAfter (Station (number t)) l) e
 
-      rest : (isSame (t .station .right) (first l) ≡ true) × (inLineAfter (Station (number t)) l ≡ true)
-      rest = and-both (isSame (t .station .right) (first l)) (inLineAfter (Station (number t)) l) (parts .1)
+      rest : (isSame (t .station .right) (first l) ≡ true) × (neighboursAfter (Station (number t)) l ≡ true)
+      rest = and-both (isSame (t .station .right) (first l)) (neighboursAfter (Station (number t)) l) (parts .1)
 
       at : (d : Side) → IsNext whole d (number t) (neighbour d (t .station))
       at Left = rw (is-same (t .station .left) prev .0 (parts .0)) (before-is-next whole t l prev w)
       at Right = rw (is-same (t .station .right) (first l) .0 (rest .0)) (after-is-next whole prev t l w)
 
   walks : (prev : Neighbour) (l : Line) → Walk whole prev l → ((s : Node) → Member s l → (d : Side) → IsNext whole d (number s) (neighbour d (s .station)))
-      → inLineAfter prev l ≡ true
-  unfolding inLineAfter
+      → neighboursAfter prev l ≡ true
+  unfolding neighboursAfter
   walks prev [] w h = refl
   walks prev (t ∷ l) w h =
       both-and (is-same (t .station .left) prev .1 (next-unique whole Left (number t) (t .station .left) prev (h t (here refl) Left) (before-is-next whole t l prev w)))
       (both-and (is-same (t .station .right) (first l) .1 (next-unique whole Right (number t) (t .station .right) (first l) (h t (here refl) Right) (after-is-next whole prev t l w)))
       (walks (Station (number t)) l (step-on whole t l prev w) (λ s m. h s (there m))))
 
-pub in-line-tested : InLineTested
-unfolding inLine
-in-line-tested line w = (λ e. walked line None line start e, λ h. walks line None line start h)
+pub neighbours-tested : NeighboursTested
+unfolding neighboursInLine
+neighbours-tested line w = (λ e. walked line None line start e, λ h. walks line None line start h)
   where
     start : Walk line None line
-    start = record { last = tt; inside = λ n m. m; ahead = λ n m. tt; split = λ n m. inr m; rising = w .rising }
+    start = record { last = tt; inside = λ n m. m; ahead = λ n m. tt; split = λ n m. inr m; rising = w }
+
+-- either removal passes the test, and nothing else does
+pub is-removal : (d : Side) → isRemoval (removal d) ≡ true
+unfolding isRemoval
+is-removal Left = rw (same-refl (removal Left))
+is-removal Right = or-right (same (removal Left) (removal Right)) (same-refl (removal Right))
+
+pub removal-is : (m : Message) → isRemoval m ≡ true → (d : Side) × (removal d ≡ m)
+unfolding isRemoval
+removal-is m e =
+    ⊎-elim (λ h. (Left, same-true (removal Left) m h)) (λ h. (Right, same-true (removal Right) m h)) (or-cases (same (removal Left) m) (same (removal Right) m) e)
+
+pub quiet-tested : (line : Line) → (all isQuiet line ≡ true) ↔ Quiet line
+unfolding isQuiet
+quiet-tested line = (
+  λ e s m d k. clash (true-any isRemoval k (is-removal d)) (not-true (any isRemoval (s .bag)) (all-true isQuiet e m)),
+  λ h. true-all isQuiet line (λ s m. ap not (fails (any isRemoval (s .bag)) (λ e.
+      let w = any-true isRemoval (s .bag) e in
+      let r = removal-is (w .0) (w .2) in
+      h s m (r .0) (Memᴰ·cast (r .1) (w .1))))),
+)
+
+pub staying-tested : (line : Line) → (all stays line ≡ true) ↔ AllStay line
+staying-tested line = (λ e s m. not-true (leaving s) (all-true stays e m), λ h. true-all stays line (λ s m. ap not (h s m)))
+
+pub in-line-tested : InLineTested
+unfolding inLine
+in-line-tested line w = (
+  λ e.
+      let h = and-both (neighboursInLine line) (all isQuiet line && all stays line) e in
+      let k = and-both (all isQuiet line) (all stays line) (h .1) in
+      record { neighbours = neighbours-tested line w .0 (h .0); quiet = quiet-tested line .0 (k .0); staying = staying-tested line .0 (k .1) },
+  λ l. both-and (neighbours-tested line w .1 (l .neighbours)) (both-and (quiet-tested line .1 (l .quiet)) (staying-tested line .1 (l .staying))),
+)

@@ -15,6 +15,7 @@ pub mod Runs
 pub mod WrittenOrder
 pub mod AcceptedTest
 pub mod InLineTest
+pub mod InLineKept
 pub mod ReportLocal
 pub mod Causes
 pub mod Report

@@ -1,42 +1,37 @@
--- The situations and the further examples hold: each is computed. So are the lines with what is said of them, and of their stations.
+-- The situations and the further examples hold: each is computed. So are the lines with what is said of their stations.
 use mathlib.Core.Path.{_≡_, refl, sym, subst, ap, _∙_}
 use mathlib.Core.Logic.{_↔_}
 use mathlib.Core.Bool.{Bool, true, false}
-use mathlib.Core.List.{List, [], _∷_, map, List·Memᴰ, List·Memᴰ·head, List·Memᴰ·tail, List·Memᴰ·not-nil, Memᴰ·cast}
+use mathlib.Core.List.{List, [], _∷_, map, List·Memᴰ, List·Memᴰ·head, List·Memᴰ·tail, Memᴰ·cast}
 use Prim.Native.Nat.{ℕ}
 use lib.Dec.{eqb}
 use borrow.Author.Tests.{eqb-true, eq-eqb}
-use Rattle.lists.specs.Lists.{all, any, Ordered, insert, removeFirst}
+use Rattle.lists.specs.Lists.{all, any, insert, removeFirst}
 use Rattle.lists.proofs.Lists.{clash, any-true, true-any}
-use Rattle.lists.proofs.Numbers.{rises-rising}
-use Rattle.line.specs.declared.Message.{Message}
-use Rattle.line.specs.declared.Side.the-variants.{Left}
 use Rattle.line.specs.declared.Leave.{Leave}
 use Rattle.line.specs.declared.Leave.the-variants.{May, MayNot}
 use Rattle.line.specs.Answer.{_>>=_, require, unlessHeld}
-use Rattle.line.specs.Message.{introduction, removal, same, precedes}
+use Rattle.line.specs.Message.{removal, same, precedes}
 use Rattle.line.specs.Marks.{marksHold}
-use Rattle.line.specs.Node.{Node, Line, number, numbers, beyond, sideOf, withNeighbour}
+use Rattle.line.specs.Node.{Node, Line, number, beyond, sideOf, withNeighbour}
 use Rattle.line.specs.Nidec.{Nidec, isNeighbour, names, isEmpty}
 use Rattle.line.specs.Leave.{holderOf, leaveOf}
 use Rattle.line.specs.Act.{sendTo, notice, timeout, meet, introduced, dropNeighbour, removed, received, introduceBoth, act}
 use Rattle.line.specs.Run.{try, run}
 use Rattle.line.specs.Step.{find, change, without, replace, withMessage, sendAll, hasRoom, commit, step}
 use Rattle.line.specs.Accepted.{inRange, hasSmallBag, liesBeyond, hasSides, isPresent, knowsNeighbour, knowsContent, namesPresent, accepted}
-use Rattle.line.specs.InLine.{isSame, first, inLineAfter, inLine}
-use Rattle.lists.specs.Numbers.{rises, areDistinct}
+use Rattle.lists.specs.Numbers.{areDistinct}
 use Rattle.line.specs.Situations.{Holds, situations}
-use Rattle.line.specs.Examples.{examples, LineExample, Says, Shows, lineExamples, LeaveExample, Answers, leaveExamples}
+use Rattle.line.specs.Examples.{examples, LineExample, Shows, lineExamples, LeaveExample, Answers, leaveExamples}
 use Rattle.line.specs.Claims.{SituationsHold, ExamplesHold, LineExamplesShow, LeaveExamplesShow}
 use Rattle.line.proofs.LeaveTest.{leave-is, leave-tested}
-use Rattle.line.proofs.InLineTest.{in-line-tested}
 
 -- what is shown of each element of a list holds of every member
-abbrev Each : {A : Type 0} → (A → Type 0) → List A → Type 0
+abbrev pub Each : {A : Type 0} → (A → Type 0) → List A → Type 0
 Each P [] = Unit {0}
 Each P (x ∷ l) = P x × Each P l
 
-each : {A : Type 0} (P : A → Type 0) {l : List A} → Each P l → (x : A) → List·Memᴰ x l → P x
+pub each : {A : Type 0} (P : A → Type 0) {l : List A} → Each P l → (x : A) → List·Memᴰ x l → P x
 each P h x (List·Memᴰ·head e) = subst P (sym e) (h .0)
 each P h x (List·Memᴰ·tail m) = each P (h .1) x m
 
@@ -63,14 +58,7 @@ may-tested line s = (λ e. leave-tested line s May .0 (go (leaveOf line s) e), �
 -- What is computed of a line, and what it says by the claims about the tests.
 record Computed (x : LineExample) : Type 0 where
   accepts : accepted (x .line) ≡ true
-  rise : rises (numbers (x .line)) ≡ true
-  order : Each (λ (s : Node). Ordered precedes (s .bag)) (x .line)
-  in-line : inLine (x .line) ≡ x .inLine
   free : Each (λ (s : Node). isMay (leaveOf (x .line) s) ≡ any (eqb (number s)) (x .free)) (x .line)
-
-says : {P : Type 0} (b t : Bool) → t ≡ b → (t ≡ true) ↔ P → Says b P
-says true t e f = f .0 e
-says false t e f = λ h. clash (f .1 h) e
 
 free-says : (l : List ℕ) (n : ℕ) {P : Type 0} (t : Bool) → t ≡ any (eqb n) l → (t ≡ true) ↔ P → P ↔ List·Memᴰ n l
 free-says l n t e f = (
@@ -81,36 +69,14 @@ free-says l n t e f = (
 shows : (x : LineExample) → Computed x → Shows x
 shows x c = record {
   accepts = c .accepts;
-  in-line = says (x .inLine) (inLine (x .line)) (c .in-line) (in-line-tested (x .line) (record { rising = rises-rising (numbers (x .line)) (c .rise); bags = each (λ (s : Node). Ordered precedes (s .bag)) (c .order) }));
   free = λ s m. free-says (x .free) (number s) (isMay (leaveOf (x .line) s)) (each (λ (s : Node). isMay (leaveOf (x .line) s) ≡ any (eqb (number s)) (x .free)) (c .free) s m) (may-tested (x .line) s);
 }
 
-nothing-behind : (m y : Message) → List·Memᴰ y [] → precedes y m ≡ false
-nothing-behind m y k = absurd (List·Memᴰ·not-nil k)
-
 pub line-examples-show : LineExamplesShow
-unfolding accepted marksHold inRange hasSmallBag liesBeyond hasSides areDistinct isPresent knowsNeighbour knowsContent namesPresent all any removal same beyond isNeighbour names isEmpty holderOf leaveOf unlessHeld rises isSame first inLineAfter inLine lineExamples
+unfolding accepted marksHold inRange hasSmallBag liesBeyond hasSides areDistinct isPresent knowsNeighbour knowsContent namesPresent all any removal same beyond isNeighbour names isEmpty holderOf leaveOf unlessHeld lineExamples
 line-examples-show x m = shows x (each Computed (
-  record { accepts = refl; rise = refl; order = tt; in-line = refl; free = tt },
-  (
-    record { accepts = refl; rise = refl; order = (tt, (tt, (tt, tt))); in-line = refl; free = (refl, (refl, (refl, tt))) },
-    (
-      record { accepts = refl; rise = refl; order = (tt, (tt, (tt, tt))); in-line = refl; free = (refl, (refl, (refl, tt))) },
-      (
-        record { accepts = refl; rise = refl; order = (tt, (tt, (tt, tt))); in-line = refl; free = (refl, (refl, (refl, tt))) },
-        (
-          record { accepts = refl; rise = refl; order = (tt, (tt, (tt, tt))); in-line = refl; free = (refl, (refl, (refl, tt))) },
-          (
-            record { accepts = refl; rise = refl; order = (tt, ((nothing-behind (removal Left), tt), (tt, tt))); in-line = refl; free = (refl, (refl, (refl, tt))) },
-            (
-              record { accepts = refl; rise = refl; order = (tt, (tt, ((nothing-behind (introduction 5), tt), tt))); in-line = refl; free = (refl, (refl, (refl, tt))) },
-              tt,
-            ),
-          ),
-        ),
-      ),
-    ),
-  ),
+  record { accepts = refl; free = tt },
+  (record { accepts = refl; free = (refl, (refl, (refl, tt))) }, (record { accepts = refl; free = (refl, (refl, (refl, tt))) }, (record { accepts = refl; free = (refl, (refl, (refl, tt))) }, (record { accepts = refl; free = (refl, (refl, (refl, tt))) }, (record { accepts = refl; free = (refl, (refl, (refl, tt))) }, (record { accepts = refl; free = (refl, (refl, (refl, tt))) }, tt)))))),
 ) x m)
 
 -- What is computed of the stations of a line, and what it says by the claim about the test.

@@ -6,6 +6,7 @@ use mathlib.Core.Bool.{true}
 use mathlib.Core.List.{List, [], _∷_}
 use mathlib.Core.List.{List·Memᴰ as Member}
 use lib.ListN.{length}
+use Rattle.lists.specs.Numbers.{Rising}
 use Rattle.line.specs.declared.Reason.{Reason}
 use Rattle.line.specs.declared.Leave.{Leave}
 use Rattle.line.specs.declared.Refusal.{Refusal}
@@ -15,7 +16,7 @@ use Rattle.line.specs.declared.Step as declared
 use Rattle.line.specs.declared.Action.{Action}
 use Rattle.line.specs.Answer.{refused, done}
 use Rattle.line.specs.Message.{capacity}
-use Rattle.line.specs.Node.{Node, Line, number, Present, inWrittenOrder, Written}
+use Rattle.line.specs.Node.{Node, Line, number, numbers, Present, inWrittenOrder, Written}
 use Rattle.line.specs.Links.{Joined}
 use Rattle.line.specs.Nidec.{Nidec}
 use Rattle.line.specs.Leave.{Why, LeaveIs, leaveOf}
@@ -25,7 +26,7 @@ use Rattle.line.specs.Run.{Run, run, IsRun}
 use Rattle.line.specs.Cause.{Cause}
 use Rattle.line.specs.Accepted.{Sided, Accepted, accepted}
 use Rattle.line.specs.Alike.{Alike}
-use Rattle.line.specs.InLine.{InLine, inLine}
+use Rattle.line.specs.InLine.{NeighboursInLine, InLine, neighboursInLine, inLine}
 use Rattle.line.specs.Report.{Fires}
 use Rattle.line.specs.Situations.{Situation, Holds, situations}
 use Rattle.line.specs.Examples.{examples, LineExample, Shows, lineExamples, LeaveExample, ShowsLeave, leaveExamples}
@@ -37,8 +38,11 @@ LeaveTested = (line : Line) (s : Node) (l : Leave) → (leaveOf line s ≡ l) �
 abbrev pub AcceptedTested : Type 0
 AcceptedTested = (line : Line) → (accepted line ≡ true) ↔ Accepted line
 
+abbrev pub NeighboursTested : Type 0
+NeighboursTested = (line : Line) → Rising (numbers line) → (neighboursInLine line ≡ true) ↔ NeighboursInLine line
+
 abbrev pub InLineTested : Type 0
-InLineTested = (line : Line) → Written line → (inLine line ≡ true) ↔ InLine line
+InLineTested = (line : Line) → Rising (numbers line) → (inLine line ≡ true) ↔ InLine line
 
 -- 1. A step that is done leaves an accepted line accepted and, where it is in written order, in written order; so does a run.
 abbrev pub StepKeepsAccepted : Type 0
@@ -89,8 +93,8 @@ ReportAgrees =
     → ((after : Line) → (step line x ≡ done after) ↔ (Fires line x after × WithinCapacity after))
     × ((step line x ≡ refused Full) ↔ ((after : Line) × Fires line x after × ¬ WithinCapacity after))
 
--- 5. The eleven starred situations, as one set; the further examples; and lines that are in line or not, with the stations that may leave;
--- and lines with what holds each of their stations.
+-- 5. The eleven starred situations, as one set; the further examples; lines with the stations that may leave; and lines with what holds each
+-- of their stations.
 abbrev pub SituationsHold : Type 0
 SituationsHold = (x : Situation) → Member x situations → Holds x
 

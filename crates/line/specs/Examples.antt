@@ -1,9 +1,9 @@
 -- Further worked examples, held to the same claim as the situations: the mirror images, the refusals, and bags at their bound. Then
--- lines, with whether they are in line and for which stations NIDEC holds; and lines with what holds each of their stations.
+-- lines, with the stations for which NIDEC holds; and lines with what holds each of their stations.
 use Prim.Native.Nat.{ℕ}
 use mathlib.Core.Path.{_≡_}
 use mathlib.Core.Logic.{_↔_}
-use mathlib.Core.Bool.{Bool, true, false}
+use mathlib.Core.Bool.{true}
 use mathlib.Core.List.{List, [], _∷_, _++_}
 use mathlib.Core.List.{List·Memᴰ as Member}
 use lib.ListN.{replicate}
@@ -18,7 +18,6 @@ use Rattle.line.specs.Node.{Node, Line, number}
 use Rattle.line.specs.Nidec.{Nidec}
 use Rattle.line.specs.Leave.{LeaveIs}
 use Rattle.line.specs.Accepted.{accepted}
-use Rattle.line.specs.InLine.{InLine}
 use Rattle.line.specs.Situations.{Situation, doing, refusing, staying, leaving, single, timeoutAt, deliverTo, exitOf}
 
 -- n copies of a message
@@ -84,54 +83,41 @@ examples =
     doing (single 3 [] ∷ staying 5 (Station 3) (Station 9) (many 31 (introduction 7) ++ (removal Left ∷ [])) ∷ single 7 [] ∷ single 9 [] ∷ []) (deliverTo 5 (removal Left))
     (single 3 (introduction 5 ∷ []) ∷ staying 5 None (Station 9) (many 31 (introduction 7)) ∷ single 7 [] ∷ single 9 [] ∷ []) ∷ []
 
--- A line, whether it is in line, and the stations for which NIDEC holds.
+-- A line, and the stations for which NIDEC holds.
 pub record LineExample : Type 0 where
   pub line : Line
-  pub inLine : Bool
   pub free : List ℕ
-
--- a statement holds, or it does not
-abbrev pub Says : Bool → Type 0 → Type 0
-Says true P = P
-Says false P = ¬ P
 
 pub record Shows (x : LineExample) : Type 0 where
   pub accepts : accepted (x .line) ≡ true
-  pub in-line : Says (x .inLine) (InLine (x .line))
   pub free : (s : Node) → Member s (x .line) → Nidec (x .line) s ↔ Member (number s) (x .free)
 
 unfoldable pub lineExamples : List LineExample
 lineExamples =
-    -- "The empty table is in line."
-    record { line = []; inLine = true; free = [] } ∷
-    -- 3, 5 and 9 in line: each is named by a neighbour
+    -- nobody is there; 3, 5 and 9 in line: each is named by a neighbour
+    record { line = []; free = [] } ∷
     record {
       line = staying 3 None (Station 5) [] ∷ staying 5 (Station 3) (Station 9) [] ∷ staying 9 (Station 5) None [] ∷ [];
-      inLine = true;
       free = [];
     } ∷
     -- the same with a left missing, and with a right missing
     record {
       line = staying 3 None (Station 5) [] ∷ staying 5 None (Station 9) [] ∷ staying 9 (Station 5) None [] ∷ [];
-      inLine = false;
       free = 3 ∷ [];
     } ∷
     record {
       line = staying 3 None (Station 5) [] ∷ staying 5 (Station 3) None [] ∷ staying 9 (Station 5) None [] ∷ [];
-      inLine = false;
       free = 9 ∷ [];
     } ∷
     -- NIDEC holds for 5, which stays, and for no station that it names
-    record { line = single 3 [] ∷ staying 5 (Station 3) (Station 9) [] ∷ single 9 [] ∷ []; inLine = false; free = 5 ∷ [] } ∷
+    record { line = single 3 [] ∷ staying 5 (Station 3) (Station 9) [] ∷ single 9 [] ∷ []; free = 5 ∷ [] } ∷
     -- it does not hold where a message waits in the own bag, nor where another bag introduces the station
     record {
       line = single 3 [] ∷ leaving 5 (Station 3) (Station 9) (removal Left ∷ []) ∷ single 9 [] ∷ [];
-      inLine = false;
       free = [];
     } ∷
     record {
       line = single 3 [] ∷ leaving 5 (Station 3) None [] ∷ single 9 (introduction 5 ∷ []) ∷ [];
-      inLine = false;
       free = [];
     } ∷ []
 

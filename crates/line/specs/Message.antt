@@ -34,6 +34,10 @@ removal Right = record { content = RemoveRight }
 unfoldable pub same : Message → Message → Bool
 same m k = eqb (kind (m .content)) (kind (k .content)) && eqb (carried (m .content)) (carried (k .content))
 
+-- "a remove-left or remove-right" (document 02, T-04)
+unfoldable pub isRemoval : Message → Bool
+isRemoval m = same (removal Left) m || same (removal Right) m
+
 -- written order: "messages by kind and then by number"
 unfoldable pub precedes : Message → Message → Bool
 precedes m k =

@@ -1,7 +1,7 @@
 -- Laws of tests, membership, insertion and removal, over any element type.
 use mathlib.Core.Path.{_≡_, refl, sym, _∙_, ap}
 use mathlib.Core.Logic.{_⊎_, inl, inr, ⊎-elim}
-use mathlib.Core.Bool.{Bool, true, false, cond, _&&_, _||_, and-assoc, or-assoc}
+use mathlib.Core.Bool.{Bool, true, false, cond, _&&_, _||_, and-assoc, or-assoc, and-false}
 use mathlib.Core.List.{List, [], _∷_, _++_, map, List·Memᴰ·not-nil, List·Memᴰ·cases-cons}
 use mathlib.Core.List.{List·Memᴰ as Member, List·Memᴰ·head as here, List·Memᴰ·tail as there}
 use Prim.Native.Nat.{ℕ, suc, _+_, _≤_}
@@ -100,6 +100,17 @@ pub all-append : {A : Type 0} (f : A → Bool) (a b : List A) → all f (a ++ b)
 unfolding all
 all-append f [] b = refl
 all-append f (x ∷ a) b = ap (λ (t : Bool). f x && t) (all-append f a b) ∙ sym (and-assoc (f x) (all f a) (all f b))
+
+-- two tests passed by every element are one
+pub all-both : {A : Type 0} (f g : A → Bool) (l : List A) → (all f l && all g l) ≡ all (λ (x : A). f x && g x) l
+unfolding all
+all-both f g [] = refl
+all-both f g (x ∷ l) = go (f x) (g x) (all-both f g l)
+  where
+    go : (a b : Bool) → (all f l && all g l) ≡ all (λ (y : _). f y && g y) l → ((a && all f l) && (b && all g l)) ≡ ((a && b) && all (λ (y : _). f y && g y) l)
+    go true true h = h
+    go true false h = and-false (all f l)
+    go false b h = refl
 
 pub mem-map : {A B : Type 0} (f : A → B) {x : A} {l : List A} → Member x l → Member (f x) (map f l)
 mem-map f (here e) = here (ap f e)

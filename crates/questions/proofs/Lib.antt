@@ -2,3 +2,4 @@
 pub mod Meanings
 pub mod Asking
 pub mod Standing
+pub mod Staying

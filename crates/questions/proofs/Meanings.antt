@@ -1,23 +1,26 @@
 -- A question is asked of the line in written order, and answers what the statement of the paper says of the blocks in stored order, because
 -- both lines are alike. So it is of In line.
 use Prim.Native.Nat.{ℕ}
-use mathlib.Core.Path.{_≡_, refl, sym, subst}
+use mathlib.Core.Path.{_≡_, refl, sym, ap}
 use mathlib.Core.Logic.{_↔_}
 use mathlib.Core.Bool.{Bool, true, false}
-use mathlib.Core.List.{List}
+use mathlib.Core.List.{List, Memᴰ·cast}
 use mathlib.Core.List.{List·Memᴰ as Member}
 use native.Mathlib.Omega.{arith}
 use borrow.Author.Tests.{eq-eqb}
-use Rattle.line.specs.declared.Neighbour.{Neighbour}
-use Rattle.line.specs.declared.Neighbour.the-variants.{None, Station}
+use Rattle.line.specs.declared.Message.{Message}
+use Rattle.line.specs.declared.Marks.{Marks}
 use Rattle.line.specs.declared.Side.{Side}
 use Rattle.line.specs.declared.Side.the-variants.{Left, Right}
+use Rattle.line.specs.Message.{same}
 use Rattle.line.specs.Node.{Node, Line, number, neighbour}
 use Rattle.line.specs.Alike.{AlikeNodes, Alike}
-use Rattle.line.specs.InLine.{IsNext, InLine, inLine}
-use Rattle.lists.proofs.Lists.{clash, mem-map}
+use Rattle.line.specs.InLine.{InLine, inLine}
+use Rattle.lists.proofs.Lists.{clash, counts-one, counted, mem-map}
 use Rattle.line.proofs.Changes.{node-of}
+use Rattle.line.proofs.Messages.{same-true, same-refl}
 use Rattle.line.proofs.InLineTest.{in-line-tested}
+use Rattle.line.proofs.InLineKept.{in-line-kept}
 use Rattle.line.proofs.WrittenOrder.{written-order-keeps}
 use Rattle.table.specs.Blocks.{nodes, lineOf}
 use Rattle.table.specs.Fault.{faultOf}
@@ -44,6 +47,12 @@ module _ {s t : Node} (h : AlikeNodes s t) where
   same-neighbour Left = h .left
   same-neighbour Right = h .right
 
+  -- what is in one bag is in the other
+  pub same-messages : {m : Message} → Member m (s .bag) → Member m (t .bag)
+  same-messages {m} k =
+      let w = counted (same m) (t .bag) (rw (← (h .bag m)) (counts-one (same m) k (same-refl m))) in
+      Memᴰ·cast (same-true m (w .0) (w .2)) (w .1)
+
 -- a node of a line that is alike to a node of another
 pub record Partner (line : Line) (s : Node) : Type 0 where
   pub node : Node
@@ -59,22 +68,18 @@ module _ (a b : Line) (h : Alike a b) where
       let w = node-of a (h .stations (number t) .1 (mem-map number m)) in
       record { node = w .0; member = w .1; named = w .2; alike = nodes-back (h .nodes (w .0) t (w .1) m (sym (w .2))) }
 
-  -- the next station on a side is the same
-  next-alike : (d : Side) (p : ℕ) (k : Neighbour) → IsNext a d p k → IsNext b d p k
-  next-alike d p None n = λ r m. n r (h .stations r .1 m)
-  next-alike d p (Station q) n = record {
-    present = h .stations q .0 (n .present);
-    beyond = n .beyond;
-    nearest = λ r m. n .nearest r (h .stations r .1 m);
-  }
-
-  -- so one is in line where the other is
+  -- and stands for it in all that In line looks at, so one is in line where the other is
   in-line-alike : InLine a → InLine b
-  in-line-alike l t m d =
+  in-line-alike l = in-line-kept a b (h .stations) (λ t m.
       let p = partner t m in
-      let k = neighbour d (p .node .station) in
-      let n = next-alike d (number (p .node)) k (l (p .node) (p .member) d) in
-      subst (IsNext b d (number t)) (sym (same-neighbour (p .alike) d)) (subst (λ (x : ℕ). IsNext b d x k) (sym (p .named)) n)
+      record {
+        node = p .node;
+        member = p .member;
+        named = p .named;
+        sides = same-neighbour (p .alike);
+        mark = ap (λ (x : Marks). x .leaving) (p .alike .marks);
+        removals = λ d k. same-messages (p .alike) k;
+      }) l
 
 -- the blocks in stored order are alike to the line in written order
 pub reading-alike : (t : List ℕ) → faultOf t ≡ 0 → Alike (nodes t) (lineOf t)
@@ -96,7 +101,7 @@ unfolding isInLine
 in-line-means t h =
     let a = reading-alike t h in
     let yes = yes-means (inLine (lineOf t)) in
-    let tested = in-line-tested (lineOf t) (table-accepted t h .2) in
+    let tested = in-line-tested (lineOf t) (table-accepted t h .2 .rising) in
     rw (answered t Refused (yesNo (inLine (lineOf t))) h) (
       λ e. in-line-alike (lineOf t) (nodes t) (alike-back a) (tested .0 (yes .0 e)),
       λ l. yes .1 (tested .1 (in-line-alike (nodes t) (lineOf t) a l)),

@@ -1,4 +1,5 @@
--- Whether a table is in line: its stations one after another in the order of the index, each beside the one before and the one after.
+-- Whether the neighbours of a table are in line: its stations one after another in the order of the index, each beside the one before and the
+-- one after.
 use Prim.Native.Nat.{ℕ, _+_, _≤_, _<_}
 use mathlib.Core.Path.{_≡_, refl, sym, ap, _∙_}
 use mathlib.Core.Bool.{Bool, true, false, _&&_, and-assoc}
@@ -9,7 +10,7 @@ use Rattle.line.specs.declared.Neighbour.{Neighbour}
 use Rattle.line.specs.declared.Neighbour.the-variants.{None, Station}
 use Rattle.line.specs.declared.Station as declared
 use Rattle.line.specs.Node.{Node, number, withBagInOrder}
-use Rattle.line.specs.InLine.{isSame, first, inLineAfter, inLine}
+use Rattle.line.specs.InLine.{isSame, first, neighboursAfter, neighboursInLine}
 use Rattle.line.proofs.Places.{place}
 use Rattle.index.specs.Index.{slotIn}
 use Rattle.block.specs.Layout.{stationOf, nodeOf}
@@ -41,12 +42,12 @@ pub both-sides : (s : declared.Station) (before after : Neighbour) {l r : Bool} 
     → (l && r) ≡ (isSame (s .left) before && isSame (s .right) after)
 both-sides s before after e f = rw (e, f)
 
--- the stations before place i stand, and `before` is the last of them: whether the line is in line is what is left to test
+-- the stations before place i stand, and `before` is the last of them: whether the neighbours are in line is what is left to test
 pub record StandTo (t : List ℕ) (before : Neighbour) (i : ℕ) : Type 0 where
-  pub is : inLine (lineOf t) ≡ inLineAfter before (drop i (lineOf t))
+  pub is : neighboursInLine (lineOf t) ≡ neighboursAfter before (drop i (lineOf t))
 
 pub stand-none : (t : List ℕ) → StandTo t None 0
-unfolding inLine
+unfolding neighboursInLine
 stand-none t = record { is = refl }
 
 module _ (t index : List ℕ) (clean : faultOf t ≡ 0) (listed : index ≡ indexOf t) where
@@ -67,8 +68,8 @@ module _ (t index : List ℕ) (clean : faultOf t ≡ 0) (listed : index ≡ inde
       unfolding withBagInOrder nodeOf
       here = ap (λ (z : Node). z .station) (line-at t index clean listed i h read) ∙ sym station
 
-      next : inLine (lineOf t) ≡ (x && inLineAfter (Station (s .number)) (drop (i + 1) (lineOf t)))
-      unfolding inLineAfter
+      next : neighboursInLine (lineOf t) ≡ (x && neighboursAfter (Station (s .number)) (drop (i + 1) (lineOf t)))
+      unfolding neighboursAfter
       next =
           let n : number (place (lineOf t) i) ≡ s .number = ap (λ (z : declared.Station). z .number) here in
           so-far .is ∙ rw (line-from t index clean listed i h, here, n, ← behind, tells, and-assoc)
@@ -76,9 +77,9 @@ module _ (t index : List ℕ) (clean : faultOf t ≡ 0) (listed : index ≡ inde
       pub stand-next : x ≡ true → StandTo t (Station (s .number)) (i + 1)
       stand-next y = record { is = next ∙ rw y }
 
-      pub stand-not : x ≡ false → false ≡ inLine (lineOf t)
+      pub stand-not : x ≡ false → false ≡ neighboursInLine (lineOf t)
       stand-not y = sym (next ∙ rw y)
 
-    pub stand-all : length index ≤ i → true ≡ inLine (lineOf t)
-    unfolding inLineAfter
+    pub stand-all : length index ≤ i → true ≡ neighboursInLine (lineOf t)
+    unfolding neighboursAfter
     stand-all h = sym (so-far .is ∙ rw (line-end t index clean listed i h))

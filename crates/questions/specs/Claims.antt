@@ -9,6 +9,6 @@ use Rattle.table.specs.Fault.{faultOf}
 use Rattle.questions.specs.declared.Told.the-variants.{Yes}
 use Rattle.questions.specs.Told.{isInLine}
 
--- The question answers yes exactly when the statement of the paper holds of the blocks in stored order.
+-- The question answers yes exactly when the statement of document 02, T-04, holds of the blocks in stored order.
 abbrev pub InLineMeans : Type 0
 InLineMeans = (t : List ℕ) → faultOf t ≡ 0 → (isInLine t ≡ Yes) ↔ InLine (nodes t)

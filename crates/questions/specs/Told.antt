@@ -1,4 +1,4 @@
--- The questions (document 01, "What the engine holds" and "The numbers a crew may see").
+-- The questions (document 01, "What the engine holds" and "The numbers a crew may see"; document 02, T-04).
 use Prim.Native.Nat.{ℕ}
 use mathlib.Core.Bool.{Bool, true, false, cond}
 use mathlib.Core.List.{List}
@@ -28,6 +28,6 @@ yesNo false = No
 abbrev pub asked : {A : Type 0} → List ℕ → (ℕ → A) → A → A
 asked table refuse a = cond (eqb (faultOf table) 0) a (refuse (faultOf table))
 
--- "ask whether the table is in line"
+-- "ask whether the table is in line", which is what document 02, T-04, makes it
 unfoldable pub isInLine : List ℕ → Told
 isInLine table = asked table Refused (yesNo (inLine (lineOf table)))

@@ -1,15 +1,18 @@
 // What a question answers, and the question whether a table is in line (document 01, "What the engine holds" and "The numbers a crew may
-// see"): "A question checks the table first (1 to 7)", and "At 0 a question returns yes or no as well".
+// see"; document 02, T-04): "A question checks the table first (1 to 7)", and "At 0 a question returns yes or no as well".
+mod settled;
+
 use block::station_of;
 use line::Neighbour;
 use line::Station;
+use settled::all_settled;
 use table::block_at;
 use table::inspect;
 use table::number_at;
 ghost use mathlib.Core.Path.{_≡_};
 ghost use mathlib.Core.Bool.{_&&_};
 ghost use lib.ListN.{drop};
-ghost use Rattle.line.specs.InLine.{isSame, first, inLine};
+ghost use Rattle.line.specs.InLine.{isSame, first, neighboursInLine, inLine};
 ghost use Rattle.table.specs.Blocks.{lineOf};
 ghost use Rattle.table.specs.Fault.{faultOf};
 ghost use Rattle.table.specs.Index.{indexOf};
@@ -95,7 +98,7 @@ fn present(table: &[u8], index: &[u64], i: usize) -> Neighbour
 fn all_stand(table: &[u8], index: &[u64]) -> bool
     requires { ⌜ faultOf (now table) ≡ 0 ⌝ }
     requires { ⌜ now index ≡ indexOf (now table) ⌝ }
-    ensures { λ r. ⌜ r ≡ inLine (lineOf (now (table .entry))) ⌝ }
+    ensures { λ r. ⌜ r ≡ neighboursInLine (lineOf (now (table .entry))) ⌝ }
 {
     let mut before = Neighbour::None;
     let mut i = 0;
@@ -113,6 +116,20 @@ fn all_stand(table: &[u8], index: &[u64]) -> bool
     true
 }
 
+// Of an accepted table and its index: whether it is in line. "the neighbours are as before, no bag holds a remove-left or remove-right, and no
+// station is leaving."
+fn lasts(table: &[u8], index: &[u64]) -> bool
+    requires { ⌜ faultOf (now table) ≡ 0 ⌝ }
+    requires { ⌜ now index ≡ indexOf (now table) ⌝ }
+    ensures { λ r. ⌜ r ≡ inLine (lineOf (now (table .entry))) ⌝ }
+{
+    if all_stand(table, index) {
+        all_settled(table, index)
+    } else {
+        false
+    }
+}
+
 // Whether the table is in line.
 pub fn in_line(table: &[u8]) -> Told
     ensures { λ r. ⌜ r ≡ isInLine (now (table .entry)) ⌝ }
@@ -123,5 +140,5 @@ pub fn in_line(table: &[u8]) -> Told
     }
     let index = inspected.index;
     let n = table.len() / 512;
-    yes_no(all_stand(table, &index[..n]))
+    yes_no(lasts(table, &index[..n]))
 }

@@ -10,11 +10,11 @@ returns c = search line-refused
 array-share-prefix-index : tie.Need-array-share-prefix-index
 array-share-prefix-index c = search inspected-long
 
-slice-aggregate-all-stand : tie.Need-slice-aggregate-all-stand
-slice-aggregate-all-stand c = search inspected-size
+slice-aggregate-lasts : tie.Need-slice-aggregate-lasts
+slice-aggregate-lasts c = search inspected-size
 
-all-stand-requires : tie.Need-all-stand-requires
-all-stand-requires c κs = (search inspected-clean, search inspected-index)
+lasts-requires : tie.Need-lasts-requires
+lasts-requires c κs = (search inspected-clean, search inspected-index)
 
 returns-2 : tie.Need-returns-2
 returns-2 c = search line-accepted
@@ -26,7 +26,7 @@ in-line-spec =
     (λ c κs. search needs)
     returns
     array-share-prefix-index
-    slice-aggregate-all-stand
-    all-stand-requires
+    slice-aggregate-lasts
+    lasts-requires
     (λ c κs. search needs)
     returns-2)

@@ -1,11 +1,12 @@
 use borrow.Author.Needs.{needs}
 use Prim.Native.Nat.{_-_}
-use Rattle.leave.proofs.Holding.{PlacesTo, places-none, places-next, places-found, places-all}
+use Rattle.line.specs.Message.{introduction, same}
+use Rattle.block.proofs.Asking.{PlacesTo, places-none, places-next, places-found, places-all}
 use Rattle.leave.proofs.holders.introduces.Statement.{statement}
 use Rattle.leave.proofs.holders.introduces.Tie as tie
 
 abbrev Inv-loop : tie.InvT-loop
-Inv-loop b p n i₀ i = PlacesTo p b n i
+Inv-loop b p n i₀ i = PlacesTo (same (introduction p)) b n i
 
 abbrev μ-loop : tie.MeasureT-loop
 μ-loop b p n i₀ i = n - i
