@@ -56,7 +56,7 @@ pub fn line(number: usize) -> Input {
     let drawn = number - usize::from(same_table);
     let random = &mut Random::of_case(2026, drawn as u64);
     match number {
-        0 => plain(random, "check, 64 full blocks", Call::Check),
+        0 => plain(random, "check, 64 full blocks", Call::Check, messages),
         1 => run_of(random, "run, 4,096 steps, mixed", [594, 400, 6]),
         2 => run_of(
             random,
@@ -65,8 +65,18 @@ pub fn line(number: usize) -> Input {
         ),
         3 => exits(random),
         4 => unnamed(random),
-        5 => plain(random, "in_line, 64 full blocks in line", Call::InLine),
-        6 => plain(random, "run, 64 full blocks, empty list", Call::Run),
+        5 => plain(
+            random,
+            "in_line, 64 full blocks in line",
+            Call::InLine,
+            introductions,
+        ),
+        6 => plain(
+            random,
+            "run, 64 full blocks, empty list",
+            Call::Run,
+            messages,
+        ),
         7 => different(random, "allowed, 64 full bags", 32),
         8 => different(random, "allowed, 64 bags of 31 in line", 31),
         9 => called(random, "roll_call, 64 full blocks", Call::RollCall, 64),
@@ -120,16 +130,24 @@ fn messages(random: &mut Random, count: usize, numbers: &[u32]) -> Vec<(u16, u32
         .collect()
 }
 
+/// So many introductions of these stations, which may wait in a table in line.
+fn introductions(random: &mut Random, count: usize, numbers: &[u32]) -> Vec<(u16, u32)> {
+    (0..count).map(|_| (1, *random.pick(numbers))).collect()
+}
+
 fn numbers(blocks: &[Block]) -> Vec<u32> {
     blocks.iter().map(|block| block.station).collect()
 }
 
-/// 64 full blocks in line, in any stored order.
-fn plain(random: &mut Random, name: &'static str, call: Call) -> Input {
+/// How the messages of a bag are drawn: so many, about these stations.
+type Draw = fn(&mut Random, usize, &[u32]) -> Vec<(u16, u32)>;
+
+/// 64 full blocks with their neighbours in line, in any stored order.
+fn plain(random: &mut Random, name: &'static str, call: Call, draw: Draw) -> Input {
     let mut blocks = in_line(random);
     let numbers = numbers(&blocks);
     for block in &mut blocks {
-        block.bag = messages(random, 32, &numbers);
+        block.bag = draw(random, 32, &numbers);
     }
     shuffle(random, &mut blocks);
     Input::of(name, call, &blocks)

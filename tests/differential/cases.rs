@@ -6,8 +6,9 @@ use crate::crowded::crowded;
 use crate::random::Random;
 use crate::steps::{self, RULES};
 use crate::tables::{self, ANY, BLOCK, Block, Wish};
+use crate::tidy::tidy;
 
-pub const KINDS: [&str; 14] = [
+pub const KINDS: [&str; 15] = [
     "steps that are done",
     "a step refused by 10 to 15",
     "loose steps and any bytes as steps",
@@ -20,14 +21,16 @@ pub const KINDS: [&str; 14] = [
     "departures",
     "two receivers, long runs",
     "full bags",
+    "in line, or not for one cause",
     "one bit of a block turned",
     "one bit of a step turned",
 ];
 pub const RECEIVERS: usize = 10;
 const CROWDED: usize = 11;
-const BLOCK_BIT: usize = 12;
-const STEP_BIT: usize = 13;
-const WEIGHTS: [usize; 12] = [25, 24, 8, 15, 8, 8, 2, 3, 3, 3, 1, 1];
+const TIDY: usize = 12;
+const BLOCK_BIT: usize = 13;
+const STEP_BIT: usize = 14;
+const WEIGHTS: [usize; 13] = [25, 24, 8, 15, 8, 8, 2, 3, 3, 3, 1, 1, 3];
 
 /// Among the first cases every fourth one turns one bit: each bit of a block with the check word set right again and not, and
 /// each bit of a step several times.
@@ -112,6 +115,12 @@ pub fn draw(random: &mut Random, number: u64) -> Case {
             let blocks = crowded(random);
             let mut stations = with_blocks(random, &mut case, blocks);
             let most = random.from_to(0, 12);
+            case.steps = steps::lively(random, &mut stations, most, &mut case.rules);
+        }
+        TIDY => {
+            let blocks = tidy(random);
+            let mut stations = with_blocks(random, &mut case, blocks);
+            let most = random.from_to(0, 40);
             case.steps = steps::lively(random, &mut stations, most, &mut case.rules);
         }
         BLOCK_BIT => {

@@ -3,26 +3,16 @@
 use model::STEP;
 
 use crate::allowed::{self, same_allowed};
-use crate::archive::{self, Lent, Told, Viewed, all_pattern};
+use crate::archive::{self, Lent, Viewed, all_pattern};
 use crate::cases::{Case, KINDS, RECEIVERS};
 use crate::joined;
 use crate::leaving::{same_leave, same_of_alike, same_reason};
+use crate::lining::same_line;
 use crate::random::Random;
 use crate::reasons;
 use crate::roll_call::{OneByOne, same_roll_call};
 use crate::tables::{self, BLOCK};
 use crate::tally::{Comparison, Tally};
-
-fn told(answer: Result<bool, u32>) -> Told {
-    match answer {
-        Ok(yes) => Told {
-            answer: 0,
-            yes: u32::from(yes),
-        },
-        // "A question returns the number alone": yes is 0 beside it.
-        Err(answer) => Told { answer, yes: 0 },
-    }
-}
 
 /// Prints what the model and the archive make of the case's run and of its list of allowed steps, for a replay.
 pub fn show(case: &Case) {
@@ -87,7 +77,7 @@ pub fn compare(random: &mut Random, case: &Case, tally: &mut Tally) -> Result<()
     tally.compared(Comparison::Allowed, listed)?;
     let checked = same_check(&table, &case.table, tally);
     tally.compared(Comparison::Check, checked)?;
-    let lined = same_line(&table, &case.table, tally);
+    let lined = same_line(random, &table, &case.table, &mut tally.lines);
     tally.compared(Comparison::Line, lined)?;
     let mut alone = OneByOne::new();
     let left = same_leave(random, &table, &case.table, &mut alone, &mut tally.leaves);
@@ -150,17 +140,6 @@ fn same_check(lent: &Lent, table: &[u8], tally: &mut Tally) -> Result<(), String
     }
     Err(format!(
         "check: the archive gives {checked}, the model {number}"
-    ))
-}
-
-fn same_line(lent: &Lent, table: &[u8], tally: &mut Tally) -> Result<(), String> {
-    let (line, wanted) = (archive::in_line(lent), told(model::in_line(table)));
-    tally.line.count(wanted);
-    if line == wanted {
-        return Ok(());
-    }
-    Err(format!(
-        "in line: the archive gives {line:?}, the model {wanted:?}"
     ))
 }
 

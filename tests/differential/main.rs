@@ -12,12 +12,14 @@ mod compare;
 mod crowded;
 mod joined;
 mod leaving;
+mod lining;
 mod random;
 mod reasons;
 mod roll_call;
 mod steps;
 mod tables;
 mod tally;
+mod tidy;
 
 use std::process::ExitCode;
 use std::sync::atomic::{AtomicU64, Ordering};

@@ -3,9 +3,10 @@
 use model::{Action, Ran, STEP, read_step};
 
 use crate::allowed::Lists;
-use crate::archive::{Told, Viewed};
+use crate::archive::Viewed;
 use crate::cases::{Case, KINDS};
 use crate::leaving::Leaves;
+use crate::lining::Lines;
 use crate::roll_call::RollCalls;
 use crate::steps::RULES;
 
@@ -31,7 +32,7 @@ pub const COMPARISONS: [&str; 12] = [
     "every byte of the room",
     "the list of allowed steps, and every byte of its room",
     "the check",
-    "the line question",
+    "the line question, and that a table in line lasts",
     "the leave question: number, reason and holder",
     "the reason of a 14, and the leave question about what was written",
     "the roll call, every byte of its records, and asking one by one",
@@ -40,24 +41,6 @@ pub const COMPARISONS: [&str; 12] = [
     "joined stations before and after",
     "two receivers of one table",
 ];
-
-/// The answers to the line question: by number, those at 0 parted into no and yes.
-#[derive(Default)]
-pub struct Answers {
-    pub no: u64,
-    pub yes: u64,
-    pub refused: [u64; 8],
-}
-
-impl Answers {
-    pub fn count(&mut self, told: Told) {
-        match told {
-            Told { answer: 0, yes: 0 } => self.no += 1,
-            Told { answer: 0, .. } => self.yes += 1,
-            Told { answer, .. } => self.refused[answer as usize] += 1,
-        }
-    }
-}
 
 /// What a view gave: blocks, ends of accepted tables, and refusals by number.
 #[derive(Default)]
@@ -89,7 +72,7 @@ pub struct Tally {
     pub kinds: [u64; KINDS.len()],
     pub run: [u64; 16],
     pub check: [u64; 8],
-    pub line: Answers,
+    pub lines: Lines,
     pub leaves: Leaves,
     pub view: Views,
     pub lists: Lists,
@@ -164,11 +147,6 @@ impl Tally {
         for (number, &count) in self.check.iter().enumerate() {
             need(count, format!("check {number}"));
         }
-        need(self.line.no, "in line no".to_string());
-        need(self.line.yes, "in line yes".to_string());
-        for number in 1..=7 {
-            need(self.line.refused[number], format!("in line {number}"));
-        }
         need(self.view.blocks, "view of a block".to_string());
         need(self.view.ends, "view of the end".to_string());
         for number in 1..=7 {
@@ -208,6 +186,7 @@ impl Tally {
             self.receivers_steps,
             "two receivers that do steps".to_string(),
         );
+        missing.extend(self.lines.missing());
         missing.extend(self.leaves.missing());
         missing.extend(self.lists.missing());
         missing.extend(self.calls.missing());
@@ -239,12 +218,7 @@ impl Tally {
         for (number, count) in self.check.iter().enumerate() {
             println!("{count:>10}  {number}");
         }
-        println!("answers of the line question:");
-        println!("{:>10}  0, no", self.line.no);
-        println!("{:>10}  0, yes", self.line.yes);
-        for (number, count) in self.line.refused.iter().enumerate().skip(1) {
-            println!("{count:>10}  {number}");
-        }
+        self.lines.print();
         self.leaves.print();
         println!("answers of the view:");
         println!("{:>10}  0, a block", self.view.blocks);

@@ -9,6 +9,8 @@ mod allowed;
 mod bytes;
 #[cfg(test)]
 mod first_steps;
+#[cfg(test)]
+mod in_line;
 mod listing;
 #[cfg(test)]
 mod reasons;
@@ -172,14 +174,27 @@ pub fn leave(stations: &Table, station: u32) -> Result<Leave, u32> {
     Ok(held(stations, station).map_or(Leave::Yes, Leave::No))
 }
 
-/// "In line: each station's left is the next smaller station present, none for the smallest, and likewise its right."
-pub fn in_line(table: &[u8]) -> Result<bool, u32> {
-    let stations = read_table(table)?;
-    Ok(stations.iter().all(|(&number, station)| {
+/// Document 01: "each station's left is the next smaller station present, none for the smallest, and likewise its right."
+fn neighbours_in_line(stations: &Table) -> bool {
+    stations.iter().all(|(&number, station)| {
         let smaller = stations.range(..number).next_back().map(|(&n, _)| n);
         let larger = stations.range(number + 1..).next().map(|(&n, _)| n);
         station.left == smaller && station.right == larger
-    }))
+    })
+}
+
+/// Document 02, T-04: "a table is in line when the neighbours are as before, no bag holds a remove-left or remove-right, and no station is
+/// leaving."
+pub fn in_line(table: &[u8]) -> Result<bool, u32> {
+    let stations = read_table(table)?;
+    let removal = |station: &Station| {
+        [Message::RemoveLeft, Message::RemoveRight]
+            .iter()
+            .any(|message| station.bag.contains_key(message))
+    };
+    Ok(neighbours_in_line(&stations)
+        && !stations.values().any(removal)
+        && !stations.values().any(|station| station.leaving))
 }
 
 /// "A console view holds the caller's table and walks it block by block without a copy": the check's number and no block, "else the blocks

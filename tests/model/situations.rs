@@ -396,14 +396,10 @@ fn the_questions() {
         (5, 3, 9, true, &[]),
         (9, 5, 0, false, &[]),
     ]));
-    assert_eq!(in_line(&line), Ok(true));
-    assert_eq!(in_line(&[]), Ok(true));
-    assert_eq!(in_line(&[0]), Err(1));
     assert_eq!(may_leave(&line, 5), Ok(Leave::No(Reason::HeldBy(3))));
     assert_eq!(may_leave(&line, 6), Err(11));
     assert_eq!(may_leave(&line, 0), Err(11));
     let apart = write_table(&table(&[(7, 0, 9, false, &[]), (9, 0, 0, false, &[])]));
-    assert_eq!(in_line(&apart), Ok(false));
     assert_eq!(may_leave(&apart, 7), Ok(Leave::Yes));
     assert_eq!(may_leave(&apart, 9), Ok(Leave::No(Reason::HeldBy(7))));
 }
