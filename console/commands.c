@@ -68,8 +68,10 @@ const struct command commands[] = {
      .usage = "line TABLE",
      .summary = "is the table in line? yes or no",
      .details = "Prints yes where each station's left is the next smaller station present, none\n"
-                "for the smallest, and likewise its right, else no. The exit status is 0 for\n"
-                "yes and 1 for no.\n"},
+                "for the smallest, and likewise its right, no bag holds a remove-left or\n"
+                "remove-right, and no station is leaving, else no. Introductions may wait: in\n"
+                "such a table none of them can change a neighbour. The exit status is 0 for yes\n"
+                "and 1 for no.\n"},
     {.name = "view",
      .words = {"TABLE"},
      .does = view_command,

@@ -23,8 +23,8 @@ extern "C" {
 
 /* The version of this header; station_line_version() has that of the library that is linked. */
 #define STATION_LINE_VERSION_MAJOR 2
-#define STATION_LINE_VERSION_MINOR 1
-#define STATION_LINE_VERSION "2.1"
+#define STATION_LINE_VERSION_MINOR 2
+#define STATION_LINE_VERSION "2.2"
 
 /* Sizes. */
 #define STATION_LINE_BLOCK_BYTES 512
@@ -137,8 +137,10 @@ struct station_line_leave station_line_may_leave(const uint8_t *table, size_t ta
 struct station_line_filled station_line_roll_call(const uint8_t *table, size_t table_len, const uint32_t *stations, size_t stations_len,
                                                   struct station_line_leave *records, size_t records_len);
 
-/* Whether the table is in line: each station's left is the next smaller station present, none for the smallest, and likewise its
- * right. 1 to 7 of the table, or 0 with yes or no. The empty table is in line. */
+/* Whether the table is in line, and so stays in line: each station's left is the next smaller station present, none for the smallest,
+ * and likewise its right; no bag holds a remove-left or remove-right; and no station is leaving. Introductions may wait: none of them
+ * can change a neighbour in such a table. 1 to 7 of the table, or 0 with yes or no. The empty table is in line. Before version 2.2 the
+ * neighbours alone decided. */
 struct station_line_told station_line_in_line(const uint8_t *table, size_t table_len);
 
 /* The table block by block: begin at position 0, go on at next. Position p of an accepted table with more than p blocks is its block
@@ -153,7 +155,7 @@ struct station_line_viewed station_line_view(const uint8_t *table, size_t table_
  * can't be read, has words too; a number without a meaning has words that say so. */
 const char *station_line_words(uint32_t number);
 
-/* The version of the library, as "2.1". */
+/* The version of the library, as "2.2". */
 const char *station_line_version(void);
 
 #ifdef __cplusplus

@@ -67,25 +67,68 @@ static void try_holders(void) {
     expect_leave((struct bytes){table, sizeof table}, 40, may_leave);
 }
 
+/* 9, 3 and 5 in line, stored in this order, with introductions that wait for 9. */
+static void put_line(uint8_t *table) {
+    put_block(table, 9, 5, 0, 0);
+    put_block(table + BLOCK, 3, 0, 5, 0);
+    put_block(table + 2 * BLOCK, 5, 3, 9, 0);
+    add_message(table, INTRODUCTION, 3);
+    add_message(table, INTRODUCTION, 3);
+}
+
+/* What is in line, and what is not for its neighbours alone. */
 static void try_line(void) {
     uint8_t table[EXAMPLE];
+    struct bytes three = {table, 3 * BLOCK};
     put_example(table);
     begin_case("in line: the example is not");
     expect_line((struct bytes){table, EXAMPLE}, 0, 0);
     begin_case("in line: the empty table");
     expect_line(no_bytes, 0, 1);
-    put_block(table, 9, 5, 0, 0);
-    put_block(table + BLOCK, 3, 0, 5, 0);
-    put_block(table + 2 * BLOCK, 5, 3, 9, 0);
-    begin_case("in line: three in any stored order");
-    expect_line((struct bytes){table, 3 * BLOCK}, 0, 1);
-    put_block(table, 9, 0, 0, 0);
+    begin_case("in line: three in any stored order, introductions waiting");
+    put_line(table);
+    expect_line(three, 0, 1);
+    for (int k = 0; k < 32; k++)
+        add_message(table + 2 * BLOCK, INTRODUCTION, 5);
+    expect_line(three, 0, 1);
     begin_case("in line: not without one left");
-    expect_line((struct bytes){table, 3 * BLOCK}, 0, 0);
+    put_block(table, 9, 0, 0, 0);
+    expect_line(three, 0, 0);
+    begin_case("in line: not with a right that passes over another");
+    put_line(table);
+    put_block(table + BLOCK, 3, 0, 9, 0);
+    expect_line(three, 0, 0);
+}
+
+/* Not in line for a removal or a leaving station alone, wherever it stands. */
+static void try_unsettled(void) {
+    uint8_t table[EXAMPLE];
+    struct bytes three = {table, 3 * BLOCK};
+    static const uint16_t removals[] = {REMOVE_LEFT, REMOVE_RIGHT};
+    begin_case("in line: not with one removal, in any place of any bag");
+    for (size_t at = 0; at < three.len; at += BLOCK)
+        for (size_t k = 0; k < 2 * 30; k++) {
+            put_line(table);
+            for (size_t before = 0; before < k / 2; before++)
+                add_message(table + at, INTRODUCTION, 9);
+            add_message(table + at, removals[k % 2], 0);
+            expect_line(three, 0, 0);
+        }
+    begin_case("in line: not with one station leaving, whichever it is");
+    put_line(table);
+    put_block(table, 9, 5, 0, 1);
+    expect_line(three, 0, 0);
+    put_line(table);
+    put_block(table + BLOCK, 3, 0, 5, 1);
+    expect_line(three, 0, 0);
+    put_line(table);
+    put_block(table + 2 * BLOCK, 5, 3, 9, 1);
+    expect_line(three, 0, 0);
 }
 
 void try_questions(void) {
     try_leave();
     try_holders();
     try_line();
+    try_unsettled();
 }

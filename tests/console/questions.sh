@@ -25,9 +25,24 @@ for station in 0 6 999999 1000000 4294967295 4294967296 4294967301 9999999999999
 done
 end
 try 'not in line' 1 $'no\n' '' line asked.bin
-table straight.bin '9 5 - stay' '3 - 5 leave' '5 3 9 stay l'
-try 'in line, in another order' 0 $'yes\n' '' line straight.bin
-try 'the view of it' 0 $'block 1 at 0: 9 5 - stay\nblock 2 at 512: 3 - 5 leave\nblock 3 at 1024: 5 3 9 stay l\nend\n' '' view straight.bin
+table straight.bin '9 5 - stay' '3 - 5 stay i5 i9 i9' '5 3 9 stay i5'
+try 'in line, in another order, introductions waiting' 0 $'yes\n' '' line straight.bin
+try 'the view of it' 0 $'block 1 at 0: 9 5 - stay\nblock 2 at 512: 3 - 5 stay i5 i9 i9\nblock 3 at 1024: 5 3 9 stay i5\nend\n' '' view straight.bin
+group 'it lasts: every introduction is delivered, and it is still in line'
+steps delivered.bin 'deliver 3 i9' 'deliver 3 i9' 'deliver 3 i5' 'deliver 5 i5' 'deliver 5 i9' 'deliver 5 i9'
+try 'the run' 0 $'answer 0 done 6 stations 3\n3 - 5 stay\n5 3 9 stay\n9 5 - stay\n' '' run straight.bin delivered.bin -o after.bin
+try 'the question' 0 $'yes\n' '' line after.bin
+end
+group 'not in line for one cause alone'
+table bent.bin '9 5 - stay' '3 - 9 stay i5 i9 i9' '5 3 9 stay i5'
+try 'a right that passes 5 over' 1 $'no\n' '' line bent.bin
+table bent.bin '9 5 - stay' '3 - 5 stay i5 i9 i9' '5 3 9 stay i5 l'
+try 'a remove-left behind an introduction' 1 $'no\n' '' line bent.bin
+table bent.bin '9 5 - stay r' '3 - 5 stay i5 i9 i9' '5 3 9 stay i5'
+try 'a remove-right with no right to remove' 1 $'no\n' '' line bent.bin
+table bent.bin '9 5 - stay' '3 - 5 leave i5 i9 i9' '5 3 9 stay i5'
+try 'a leaving station' 1 $'no\n' '' line bent.bin
+end
 table free.bin '7 - 9 stay' '9 - - leave i9'
 try 'yes, without a leaving mark' 0 $'yes\n' '' leave free.bin 7
 try 'a number with a zero before it' 0 $'yes\n' '' leave free.bin 07

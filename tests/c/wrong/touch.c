@@ -5,7 +5,7 @@
  * (table, list, room), read or write, and where: before it, behind it, or inside (a byte of a table or a list, or of a room past the
  * table or the list written). The questions of a roll call are its list, and its records the room. "stale" and run, leave or roll is one
  * that gives an earlier reason again where there is none to give. "ends" is a program that dies after its last line. What else a roll call
- * may do wrong is in roll_call.c. Without WRONG nothing is wrong. */
+ * and the line question may do wrong is in roll_call.c and in_line.c. Without WRONG nothing is wrong. */
 #include "touch.h"
 
 #include <stdio.h>
@@ -19,7 +19,6 @@ struct station_line_ran __real_station_line_run(const uint8_t *table, size_t tab
                                                 uint8_t *room, size_t room_len);
 struct station_line_filled __real_station_line_allowed(const uint8_t *table, size_t table_len, uint8_t *room, size_t room_len);
 struct station_line_leave __real_station_line_may_leave(const uint8_t *table, size_t table_len, uint32_t station);
-struct station_line_told __real_station_line_in_line(const uint8_t *table, size_t table_len);
 struct station_line_viewed __real_station_line_view(const uint8_t *table, size_t table_len, size_t position);
 
 uint32_t __wrap_station_line_check(const uint8_t *table, size_t table_len);
@@ -27,7 +26,6 @@ struct station_line_ran __wrap_station_line_run(const uint8_t *table, size_t tab
                                                 uint8_t *room, size_t room_len);
 struct station_line_filled __wrap_station_line_allowed(const uint8_t *table, size_t table_len, uint8_t *room, size_t room_len);
 struct station_line_leave __wrap_station_line_may_leave(const uint8_t *table, size_t table_len, uint32_t station);
-struct station_line_told __wrap_station_line_in_line(const uint8_t *table, size_t table_len);
 struct station_line_viewed __wrap_station_line_view(const uint8_t *table, size_t table_len, size_t position);
 
 static void die(void) {
@@ -99,12 +97,6 @@ struct station_line_leave __wrap_station_line_may_leave(const uint8_t *table, si
     touch("leave", "table", table, table_len, 0);
     keep_reason("leave", &leave.reason, &leave.holder);
     return leave;
-}
-
-struct station_line_told __wrap_station_line_in_line(const uint8_t *table, size_t table_len) {
-    struct station_line_told told = __real_station_line_in_line(table, table_len);
-    touch("line", "table", table, table_len, 0);
-    return told;
 }
 
 struct station_line_viewed __wrap_station_line_view(const uint8_t *table, size_t table_len, size_t position) {
