@@ -23,7 +23,7 @@ enum {
 
 /* How often the runs of the inputs, the lists of allowed steps in the inputs' rooms, and the roll calls gave each answer; and how often the
  * leave question about the station of an accepted input, a run that stopped with 14, and the records of a roll call gave each reason. */
-extern uint64_t answers_met[16], lists_met[10], reasons_met[4], stops_met[4], calls_met[18], records_met[4];
+extern uint64_t answers_met[16], lists_met[10], lines_met[2], reasons_met[4], stops_met[4], calls_met[18], records_met[4];
 
 struct cut {
     const uint8_t *table, *steps;

@@ -38,7 +38,7 @@ __attribute__((section("__libfuzzer_extra_counters")))
 #endif
 static uint8_t counters[COUNTERS];
 
-uint64_t answers_met[16], lists_met[10], reasons_met[4], stops_met[4], calls_met[18], records_met[4];
+uint64_t answers_met[16], lists_met[10], lines_met[2], reasons_met[4], stops_met[4], calls_met[18], records_met[4];
 
 static void tell(uint32_t kind, uint32_t a, uint32_t b, uint32_t c)
 {
@@ -190,6 +190,46 @@ static int rises_in_line(const uint8_t *table, size_t blocks, const char *what)
     return in_line;
 }
 
+/* Whether no station of an accepted table leaves, and every message in its bags is an introduction. */
+static int settled(const uint8_t *table, size_t blocks)
+{
+    for (size_t k = 0; k < blocks; k++) {
+        const uint8_t *b = table + k * BLOCK;
+        for (size_t place = 0; place < get16(b + 16); place++) {
+            if (get16(b + 20 + 8 * place) != 1) {
+                return 0;
+            }
+        }
+        if (get16(b + 2) != 0) {
+            return 0;
+        }
+    }
+    return 1;
+}
+
+/* A table in line, in written order, lasts: the last message of the first bag that has one is delivered, and every station is as it was. */
+static void deliver_in_line(const uint8_t *table, size_t table_len, enum place place)
+{
+    static struct result delivered;
+    uint8_t step[STEP];
+    size_t at = 0;
+    while (at < table_len && get16(table + at + 16) == 0) {
+        at += BLOCK;
+    }
+    if (at == table_len) {
+        return;
+    }
+    const uint8_t *message = table + at + 12 + 8 * (size_t)get16(table + at + 16);
+    put_step(step, 2, get16(message), get32(table + at + 4), get32(message + 4));
+    run(&delivered, table, table_len, step, STEP, table_len, place);
+    law(delivered.ran.answer == 0 || delivered.ran.answer == 15, "an introduction in a table in line is delivered, or finds a full bag");
+    for (size_t k = 0; k < table_len; k += BLOCK) {
+        law(memcmp(delivered.bytes + k, table + k, 16) == 0, "a table in line keeps its stations");
+    }
+    struct station_line_told again = station_line_in_line(lend_bytes(&tables, delivered.bytes, table_len, place), table_len);
+    law(again.answer == 0 && again.yes == 1, "a table in line lasts");
+}
+
 /* The view, on the table as it was handed over: its blocks one by one, and the end near and far away. */
 static void walk(const struct cut *c, uint32_t fault, enum place place)
 {
@@ -244,7 +284,12 @@ static void ask(const struct cut *c, uint32_t fault, enum place place)
     size_t blocks = c->table_len / BLOCK;
     run(&plain, c->table, c->table_len, NULL, 0, c->table_len, place);
     law(plain.ran.answer == 0 && plain.ran.stations == blocks, "no steps, no change");
-    law(line.answer == 0 && line.yes == (uint32_t)rises_in_line(plain.bytes, blocks, "blocks rise"), "the line question");
+    int neighbours = rises_in_line(plain.bytes, blocks, "blocks rise");
+    law(line.answer == 0 && line.yes == (uint32_t)(neighbours && settled(plain.bytes, blocks)), "the line question");
+    lines_met[line.yes]++;
+    if (line.yes == 1) {
+        deliver_in_line(plain.bytes, c->table_len, place);
+    }
     struct station_line_leave leave = leave_of(c->table, c->table_len, c->station, place);
     reasons_met[leave.reason]++;
     tell(1, leave.answer, leave.reason, line.yes);

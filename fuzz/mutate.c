@@ -93,11 +93,28 @@ static void set_side(uint8_t *b)
     }
 }
 
-/* Every block gets its neighbours in line. */
+/* The station stays, and its messages are introductions of itself where they are none yet. */
+static void settle(uint8_t *b)
+{
+    put16(b + 2, 0);
+    for (uint32_t place = 0; place < 32 && place < get16(b + 16); place++) {
+        uint8_t *message = b + 20 + 8 * (size_t)place;
+        if (get16(message) != 1) {
+            put16(message, 1);
+            put32(message + 4, get32(b + 4));
+        }
+    }
+}
+
+/* Every block gets its neighbours in line, and every other time the table is in line. */
 static void put_in_line(void)
 {
+    uint32_t whole = below(2);
     for (uint32_t i = 0; i < blocks(); i++) {
         uint8_t *b = table + (size_t)i * BLOCK;
+        if (whole == 1) {
+            settle(b);
+        }
         uint32_t own = get32(b + 4), left = 0, right = 0;
         for (uint32_t j = 0; j < blocks(); j++) {
             uint32_t other = get32(table + (size_t)j * BLOCK + 4);

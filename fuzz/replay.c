@@ -35,6 +35,7 @@ int main(int argc, char **argv)
     }
     print_met("answers met", answers_met, 16);
     print_met("answers of the list of allowed steps met", lists_met, 10);
+    print_met("line question, no and yes met", lines_met, 2);
     print_met("reasons of the leave question met", reasons_met, 4);
     print_met("reasons of a 14 met", stops_met, 4);
     print_met("answers of the roll call met", calls_met, 18);

@@ -1,6 +1,6 @@
 #!/usr/bin/env python3
 """Writes the seeds of fuzz/corpus: the printed example of document 01, the shorter cases of crates/situations/data/cases.bin, tables for the
-list of allowed steps, one for each thing that may hold a station, and roll calls. Run it in the repository's root; with one argument it
+list of allowed steps, one for each thing that may hold a station, roll calls, and tables in line or not for one cause. Run it in the repository's root; with one argument it
 writes them below that folder. An input is four numbers of 32 bits (length of the table, of the step list, of the room; the station asked
 about), the table and the step list."""
 import pathlib
@@ -82,3 +82,17 @@ roll_call("most", 64, 5)
 roll_call("many", 65, 8)
 roll_call("many-short", 65, 3)
 roll_call("refused", 65, 3, right3=4)
+
+
+def line(name, bag5=(), right3=5, leaving9=0):
+    """3, 5 and 9, stored by falling number, with introductions that wait for 9 and 3."""
+    table = block(9, left=5, leaving=leaving9, bag=[(INTRODUCTION, 3)] * 32) + block(5, left=3, right=9, bag=bag5) + block(3, right=right3, bag=[(INTRODUCTION, 9)])
+    seed("line-" + name, table, step(TIMEOUT, 5), len(table))
+
+
+introductions = [(INTRODUCTION, n) for n in (3, 5, 9)] * 10 + [(INTRODUCTION, 5)]
+line("waiting", introductions)
+line("neighbours", introductions, right3=9)
+line("remove-left", introductions + [(REMOVE_LEFT, 0)])
+line("remove-right", [(REMOVE_RIGHT, 0)] + introductions)
+line("leaving", introductions, leaving9=1)

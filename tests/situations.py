@@ -221,8 +221,10 @@ def in_line(table):
         return fault, 0
     line = read_table(table)
     present = [0] + sorted(line) + [0]
-    return 0, int(all((line[p].left, line[p].right) == (below, above)
-                      for below, p, above in zip(present, present[1:], present[2:])))
+    neighbours = all((line[p].left, line[p].right) == (below, above) for below, p, above in zip(present, present[1:], present[2:]))
+    # "no bag holds a remove-left or remove-right, and no station is leaving" (document 02, T-04)
+    waiting = {kind for s in line.values() for kind, _ in s.bag}
+    return 0, int(neighbours and waiting <= {INTRODUCTION} and not any(s.leaving for s in line.values()))
 
 
 def word(message):
@@ -660,6 +662,43 @@ bags = {k: [L] * 31 + [i(40) if k == 1 else R] for k in range(64, 0, -1)}
 case("14, the last place of the last of 63 full bags",
      [block(40, leaving=1)] + [block(k, bag=bags[k]) for k in bags if k != 40], [leave(40)])
 assert cases[-1][5][0] == "answer 14 done 0 stations 64 held-by 1"
+
+# In line (document 02, T-04), asked by the questions below: what may wait, and each cause of a no by itself.
+
+
+def lined(title, yes, table, steps=(), says=None):
+    case(title, table, steps, None, says)
+    assert in_line(b"".join(table)) == (0, int(yes)), title
+
+
+def three(bag5=(), right3=5, left9=5, leaving9=0):
+    return [block(9, left=left9, leaving=leaving9, bag=[i(3)] * 2), block(3, right=right3, bag=[i(5), i(9)]), block(5, left=3, right=9, bag=bag5)]
+
+
+itself = [i(5), i(3), i(9)]
+lined("in line, every introduction that waits is delivered", True, three(itself),
+      [deliver(9, i(3)), deliver(3, i(9)), deliver(5, i(5)), deliver(5, i(9)), deliver(5, i(9)), deliver(5, i(3)), deliver(5, i(3)), deliver(3, i(5)), deliver(9, i(3))],
+      "answer 0 done 9 stations 3 | 3 - 5 stay | 5 3 9 stay i3 | 9 5 - stay")
+lined("in line, a full bag refuses what would be passed on", True, three([i(5)] * 32), [deliver(3, i(9))],
+      "answer 15 done 0 stations 3 | 3 - 5 stay i5 i9 | 5 3 9 stay" + " i5" * 32 + " | 9 5 - stay i3 i3")
+lined("in line, a sole station", True, [block(5, bag=[i(5)] * 32)])
+lined("not in line, a right that passes 5 over", False, three(itself, right3=9))
+lined("not in line, a left missing", False, three(itself, left9=0))
+lined("not in line, a remove-left in the last place", False, three([i(5)] * 31 + [L]), [deliver(5, L)],
+      "answer 0 done 1 stations 3 | 3 - 5 stay i5 i5 i9 | 5 - 9 stay" + " i5" * 31 + " | 9 5 - stay i3 i3")
+lined("not in line, a remove-right in the first place", False, three([R] + itself))
+lined("not in line, a remove-right without a right", False, [block(5, bag=[R])])
+lined("not in line, one station leaving", False, three(itself, leaving9=1))
+lined("not in line, a sole station leaving", False, [block(5, leaving=1)])
+
+
+def sixty_four(last):
+    """64 stations in line with full bags of introductions; the first station's last message is the one given."""
+    return [block(k, left=k - 1, right=(k + 1) % 65, bag=[i(k)] * 31 + [last if k == 1 else i(65 - k)]) for k in range(64, 0, -1)]
+
+
+lined("in line, 64 full bags", True, sixty_four(i(1)))
+lined("not in line, a removal in the last place of the last of 64 full bags", False, sixty_four(R))
 
 assert {answer for _, _, _, _, answer, _ in cases} == set(range(16))
 
