@@ -4,6 +4,7 @@ use model::{Action, MOST_MESSAGES, STEP, Step, Table, copies};
 
 use crate::archive::{self, Filled, Lent};
 use crate::compare::same_room;
+use crate::counts::Counts;
 use crate::random::Random;
 use crate::steps;
 
@@ -70,7 +71,15 @@ impl Lists {
         self.rooms[kind] += 1;
     }
 
-    /// The counts with their names; each must be met.
+    pub fn print_steps(&self) {
+        println!("allowed steps: {}, most {}", self.steps, self.longest);
+    }
+}
+
+impl Counts for Lists {
+    const OF: &'static str = "allowed steps";
+    const TITLE: &'static str = "the list of allowed steps, answers, tables and rooms";
+
     fn named(&self) -> Vec<(String, u64)> {
         let answers = self.answers.iter().enumerate();
         let answers = answers.filter(|(number, _)| *number != 8);
@@ -78,21 +87,6 @@ impl Lists {
         let names = TABLES.iter().chain(&ROOMS).map(ToString::to_string);
         let counts = self.tables.iter().chain(&self.rooms).copied();
         answers.chain(names.zip(counts)).collect()
-    }
-
-    pub fn missing(&self) -> impl Iterator<Item = String> {
-        let named = self.named().into_iter();
-        named
-            .filter(|(_, count)| *count == 0)
-            .map(|(name, _)| format!("allowed steps: {name}"))
-    }
-
-    pub fn print(&self) {
-        println!("the list of allowed steps, answers, tables and rooms:");
-        for (name, count) in self.named() {
-            println!("{count:>10}  {name}");
-        }
-        println!("allowed steps: {}, most {}", self.steps, self.longest);
     }
 }
 

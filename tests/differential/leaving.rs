@@ -5,6 +5,7 @@ use model::{Message, STEP, Station, Table};
 
 use crate::archive::{self, Leave, Lent, Ran};
 use crate::cases::Case;
+use crate::counts::Counts;
 use crate::random::Random;
 use crate::reasons;
 use crate::roll_call::OneByOne;
@@ -29,8 +30,10 @@ pub struct Leaves {
     stopped: [u64; MET.len()],
 }
 
-impl Leaves {
-    /// The counts with their names; each must be met.
+impl Counts for Leaves {
+    const OF: &'static str = "leave question";
+    const TITLE: &'static str = "answers of the leave question, and what it found";
+
     fn named(&self) -> Vec<(String, u64)> {
         let numbers = (0..=7).chain([11]);
         let answers = numbers.map(|number| (number.to_string(), self.answers[number]));
@@ -39,20 +42,6 @@ impl Leaves {
         let stopped = MET.iter().zip(self.stopped).skip(1);
         let stopped = stopped.map(|(name, count)| (format!("a run's 14, {name}"), count));
         answers.chain(asked).chain(stopped).collect()
-    }
-
-    pub fn missing(&self) -> impl Iterator<Item = String> {
-        let named = self.named().into_iter();
-        named
-            .filter(|(_, count)| *count == 0)
-            .map(|(name, _)| format!("leave question: {name}"))
-    }
-
-    pub fn print(&self) {
-        println!("answers of the leave question, and what it found:");
-        for (name, count) in self.named() {
-            println!("{count:>10}  {name}");
-        }
     }
 }
 

@@ -4,6 +4,7 @@
 use model::{Action, Message, Step, Table, write_step};
 
 use crate::archive::{self, Lent, Told};
+use crate::counts::Counts;
 use crate::random::Random;
 use crate::tables::BLOCK;
 
@@ -31,28 +32,16 @@ pub struct Lines {
     met: [u64; MET.len()],
 }
 
-impl Lines {
-    /// The counts with their names; each must be met.
+impl Counts for Lines {
+    const OF: &'static str = "line question";
+    const TITLE: &'static str = "answers of the line question, and what it found";
+
     fn named(&self) -> Vec<(String, u64)> {
         let answers = self.answers.iter().enumerate();
         let answers = answers.map(|(number, &count)| (number.to_string(), count));
         let met = MET.iter().zip(self.met);
         let met = met.map(|(name, count)| (format!("0, {name}"), count));
         answers.chain(met).collect()
-    }
-
-    pub fn missing(&self) -> impl Iterator<Item = String> {
-        let named = self.named().into_iter();
-        named
-            .filter(|(_, count)| *count == 0)
-            .map(|(name, _)| format!("line question: {name}"))
-    }
-
-    pub fn print(&self) {
-        println!("answers of the line question, and what it found:");
-        for (name, count) in self.named() {
-            println!("{count:>10}  {name}");
-        }
     }
 }
 

@@ -9,6 +9,7 @@ mod allowed;
 mod archive;
 mod cases;
 mod compare;
+mod counts;
 mod crowded;
 mod joined;
 mod leaving;

@@ -7,6 +7,7 @@ use model::{Leave, MOST_QUESTIONS, Message, Table, mentions};
 
 use crate::archive::{self, Filled, Lent};
 use crate::compare::same_room;
+use crate::counts::Counts;
 use crate::leaving::{stored, wanted};
 use crate::random::Random;
 
@@ -89,28 +90,18 @@ impl RollCalls {
             }] += 1;
         }
     }
+}
 
-    /// The counts with their names; each must be met.
+impl Counts for RollCalls {
+    const OF: &'static str = "roll call";
+    const TITLE: &'static str = "roll calls, answers, questions and records";
+
     fn named(&self) -> Vec<(String, u64)> {
         let numbers = (0..=7).chain([9, 17]);
         let answers = numbers.map(|number| (number.to_string(), self.answers[number]));
         let names = MET.iter().chain(&RECORDS).map(ToString::to_string);
         let counts = self.met.iter().chain(&self.records).copied();
         answers.chain(names.zip(counts)).collect()
-    }
-
-    pub fn missing(&self) -> impl Iterator<Item = String> {
-        let named = self.named().into_iter();
-        named
-            .filter(|(_, count)| *count == 0)
-            .map(|(name, _)| format!("roll call: {name}"))
-    }
-
-    pub fn print(&self) {
-        println!("roll calls, answers, questions and records:");
-        for (name, count) in self.named() {
-            println!("{count:>10}  {name}");
-        }
     }
 }
 

@@ -5,6 +5,7 @@ use model::{Action, Ran, STEP, read_step};
 use crate::allowed::Lists;
 use crate::archive::Viewed;
 use crate::cases::{Case, KINDS};
+use crate::counts::Counts;
 use crate::leaving::Leaves;
 use crate::lining::Lines;
 use crate::roll_call::RollCalls;
@@ -227,6 +228,7 @@ impl Tally {
             println!("{count:>10}  {number}");
         }
         self.lists.print();
+        self.lists.print_steps();
         self.calls.print();
         println!("steps done, by rule, of those chosen against the model:");
         for (name, count) in RULES.iter().zip(&self.rules) {
