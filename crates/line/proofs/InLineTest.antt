@@ -137,12 +137,12 @@ neighbours-tested line w = (λ e. walked line None line start e, λ h. walks lin
     start = record { last = tt; inside = λ n m. m; ahead = λ n m. tt; split = λ n m. inr m; rising = w }
 
 -- either removal passes the test, and nothing else does
-pub is-removal : (d : Side) → isRemoval (removal d) ≡ true
+is-removal : (d : Side) → isRemoval (removal d) ≡ true
 unfolding isRemoval
 is-removal Left = rw (same-refl (removal Left))
 is-removal Right = or-right (same (removal Left) (removal Right)) (same-refl (removal Right))
 
-pub removal-is : (m : Message) → isRemoval m ≡ true → (d : Side) × (removal d ≡ m)
+removal-is : (m : Message) → isRemoval m ≡ true → (d : Side) × (removal d ≡ m)
 unfolding isRemoval
 removal-is m e =
     ⊎-elim (λ h. (Left, same-true (removal Left) m h)) (λ h. (Right, same-true (removal Right) m h)) (or-cases (same (removal Left) m) (same (removal Right) m) e)
