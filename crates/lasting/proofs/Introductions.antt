@@ -23,10 +23,9 @@ use Rattle.line.specs.Node.{Node, Line, number, numbers, Present, Beyond, beyon
 use Rattle.line.specs.Links.{by-introduction}
 use Rattle.line.specs.Leave.{leaveOf}
 use Rattle.line.specs.Accepted.{Accepted}
-use Rattle.line.specs.Act.{Send, send, Reaction, unchanged, meet, introduced, received, kept, Effect, act}
+use Rattle.line.specs.Act.{Send, send, Reaction, unchanged, meet, introduced, received, Effect, act}
 use Rattle.line.specs.Step.{find, change, replace, withMessage, sendAll, hasRoom, commit, step}
 use Rattle.line.specs.InLine.{IsNext, InLine}
-use Rattle.line.specs.Situations.{deliverTo}
 use Rattle.line.proofs.Answers.{bound, required, done-inj}
 use Rattle.line.proofs.Messages.{held-mem, receives, gives-up}
 use Rattle.line.proofs.Sides.{beyond-true, sideOf-beyond}

@@ -2,7 +2,6 @@
 use mathlib.Core.Path.{_≡_, refl}
 use mathlib.Core.Logic.{_↔_}
 use mathlib.Core.Bool.{Bool, true, false, _&&_}
-use mathlib.Core.List.{[], _∷_}
 use Rattle.lists.specs.Lists.{all, any}
 use Rattle.lists.specs.Numbers.{rises, areDistinct}
 use Rattle.lists.proofs.Lists.{clash}

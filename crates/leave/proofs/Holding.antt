@@ -1,17 +1,13 @@
--- Who holds a station, asked of the blocks: the counted places of a block one after another, then the blocks in the order of the index.
-use Prim.Native.Nat.{ℕ, zero, suc, _+_, _≤_, _<_}
-use mathlib.Core.Path.{_≡_, refl, sym, ap, _∙_}
-use mathlib.Core.Logic.{⊎-elim}
-use mathlib.Core.Bool.{Bool, true, false, _||_, or-false, or-true}
-use mathlib.Core.List.{List, [], _∷_}
-use native.Mathlib.Nat.{le-of-suc-le-suc, not-suc-le-zero, eq-or-lt-of-le}
-use native.Mathlib.Numerals.{add-one}
+-- Who holds a station, asked of a message, of a block, and of the blocks in the order of the index.
+use Prim.Native.Nat.{ℕ, _+_, _≤_, _<_}
+use mathlib.Core.Path.{_≡_, sym, ap, _∙_}
+use mathlib.Core.Bool.{Bool, true, false}
+use mathlib.Core.List.{List}
 use native.Mathlib.Omega.{arith}
 use lib.Dec.{eqb}
 use lib.ListN.{length, getD}
-use Rattle.lists.specs.Lists.{any}
 use Rattle.lists.specs.Places.{firstAt}
-use Rattle.lists.proofs.Lists.{any-append, sort-any}
+use Rattle.lists.proofs.Lists.{sort-any}
 use Rattle.line.specs.declared.Content.the-variants.{Introduction, RemoveLeft, RemoveRight}
 use Rattle.line.specs.declared.Message.{Message}
 use Rattle.line.specs.declared.Station as declared
@@ -19,10 +15,8 @@ use Rattle.line.specs.Message.{introduction, same, holds, precedes}
 use Rattle.line.specs.Node.{Node, withBagInOrder, nobody}
 use Rattle.line.specs.Nidec.{isNeighbour, names}
 use Rattle.line.specs.Leave.{isHolder}
-use Rattle.fields.specs.declared.Place.{Place}
-use Rattle.fields.specs.Fields.{messageOf}
 use Rattle.octets.specs.Bytes.{word}
-use Rattle.block.specs.Layout.{placeAt, messages, stationOf, nodeOf}
+use Rattle.block.specs.Layout.{messages, stationOf, nodeOf}
 use Rattle.index.specs.Index.{slotIn}
 use Rattle.table.specs.Blocks.{blockAt, lineOf}
 use Rattle.table.specs.Fault.{faultOf}

@@ -2,22 +2,20 @@
 -- holds a station are the same of alike lines (document 02, T-02).
 use Prim.Native.Nat.{ℕ}
 use mathlib.Core.Path.{_≡_, refl, sym, ap, _∙_, subst}
-use mathlib.Core.List.{List, [], _∷_, List·Memᴰ·not-nil, Memᴰ·cast}
+use mathlib.Core.List.{List, [], _∷_, List·Memᴰ·not-nil}
 use mathlib.Core.List.{List·Memᴰ as Member, List·Memᴰ·head as here}
-use Rattle.lists.proofs.Lists.{counts-one, counted, mem-map}
+use Rattle.lists.proofs.Lists.{mem-map}
 use Rattle.line.specs.declared.Message.{Message}
 use Rattle.line.specs.declared.Reason.the-variants.{OwnBag, HeldBy}
 use Rattle.line.specs.declared.Leave.{Leave}
 use Rattle.line.specs.declared.Leave.the-variants.{May, MayNot}
 use Rattle.line.specs.Answer.{done}
-use Rattle.line.specs.Message.{same}
 use Rattle.line.specs.Node.{Node, Line, number}
 use Rattle.line.specs.Links.{Linked, by-neighbour, by-introduction, Link, link}
 use Rattle.line.specs.Alike.{AlikeNodes, Alike}
 use Rattle.line.specs.Nidec.{Nidec}
 use Rattle.line.specs.Leave.{Holder, LeaveIs, leaveOf}
 use Rattle.line.specs.Step.{find}
-use Rattle.line.proofs.Messages.{same-true, same-refl}
 use Rattle.line.proofs.Changes.{found, present-found}
 use Rattle.line.proofs.LeaveTest.{leave-tested}
 use Rattle.table.specs.Blocks.{nodes, lineOf}

@@ -1,4 +1,4 @@
--- The tests of a line in written order say what In line says: of its neighbours, of its bags, of its marks.
+-- The tests of a line whose numbers rise say what In line says: of its neighbours, of its bags, of its marks.
 use mathlib.Core.Path.{_≡_, refl, sym, ap}
 use mathlib.Core.Logic.{_↔_, _⊎_, inl, inr, ⊎-elim}
 use mathlib.Core.Bool.{true, not, _&&_}

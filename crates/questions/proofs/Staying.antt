@@ -1,7 +1,7 @@
 -- Whether every station of a table stays and no removal waits in a bag: of one message, of one block, of the blocks in the order of the index;
 -- and with that, whether a table is in line.
 use Prim.Native.Nat.{ℕ, _+_, _≤_, _<_}
-use mathlib.Core.Path.{_≡_, refl, sym, ap, _∙_}
+use mathlib.Core.Path.{_≡_, sym, ap, _∙_}
 use mathlib.Core.Bool.{Bool, true, false, not, _&&_}
 use mathlib.Core.List.{List}
 use lib.ListN.{length, getD, drop}
