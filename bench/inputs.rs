@@ -114,6 +114,7 @@ fn in_line(random: &mut Random) -> Vec<Block> {
             left: if k == 0 { 0 } else { numbers[k - 1] },
             right: numbers.get(k + 1).copied().unwrap_or(0),
             leaving: false,
+            site: 0,
             bag: Vec::new(),
         })
         .collect()

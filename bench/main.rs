@@ -149,15 +149,18 @@ fn compare() {
         alike_calls(&input.table, &input.stations, input.stations.len());
         goes_all_the_way(&input);
     }
-    let (mut met, mut called) = ([0u64; 16], [0u64; 18]);
+    let (mut met, mut called, mut coded) = ([0u64; 16], [0u64; 18], 0u64);
     for case in 0..CASES {
         let random = &mut Random::of_case(7, case);
         let (table, steps, room, station) = any_case(random);
-        met[alike(&table, &steps, room, station) as usize] += 1;
+        let answer = alike(&table, &steps, room, station);
+        met[answer as usize] += 1;
+        coded += u64::from(!(1..=9).contains(&answer) && has_code(&table));
         let (stations, records) = any_call(random, &table, station);
         called[alike_calls(&table, &stations, records) as usize] += 1;
     }
     assert!(met.iter().all(|&times| times > 0), "never met: {met:?}");
+    assert!(coded > 0, "no run has carried a site code");
     assert!(
         [0, 1, 2, 3, 4, 5, 6, 7, 9, 17]
             .iter()
@@ -166,6 +169,13 @@ fn compare() {
     println!(
         "the three agree on the inputs below and on {CASES} random cases with every answer from 0 to 15, and 17 of a roll call"
     );
+    println!("{coded} of these cases are runs that carry site codes");
+}
+
+/// Whether some station has a site code (document 02, T-05); the inputs that are measured have none, since no function does less for a 0.
+fn has_code(table: &[u8]) -> bool {
+    let mut blocks = table.chunks_exact(model::BLOCK);
+    blocks.any(|block| block[18..20] != [0, 0])
 }
 
 /// Every step of a measured list is done, both questions are answered with yes, a roll call with yes for every station whose bag is empty, and

@@ -102,9 +102,9 @@ const struct command commands[] = {
      .does = assemble_command,
      .usage = "assemble table|steps TEXT [-o OUT]",
      .summary = "lines of text into a table or step list",
-     .details = "Makes a table from station lines such as '5 3 - stay i7 l', or a step list from\n"
-                "lines such as 'timeout 5', 'deliver 5 i7' and 'exit 5'. Empty lines and lines\n"
-                "that begin with '#' are passed over.\n"
+     .details = "Makes a table from station lines such as '5 3 - stay i7 l' or, at site 1234,\n"
+                "'5 3 - stay i7 l @1234', or a step list from lines such as 'timeout 5', 'deliver\n"
+                "5 i7' and 'exit 5'. Empty lines and lines that begin with '#' are passed over.\n"
                 "\n"
                 "  -o, --output OUT    write to OUT; without it, or where it is '-', to standard\n"
                 "                      output\n"},

@@ -75,8 +75,8 @@ static void find_head(const struct search *search) {
         found(search, "right", 12, "is %u, should be 0 to 999,999", (unsigned)fields->right);
     if (fields->count > STATION_LINE_MOST_MESSAGES)
         found(search, "count of messages", 16, "is %u, should be 0 to 32", (unsigned)fields->count);
-    if (fields->reserved != 0)
-        found(search, "bytes 18 and 19", 18, "is %u, should be 0", (unsigned)fields->reserved);
+    if (fields->site > STATION_LINE_MOST_SITE)
+        found(search, "site code", 18, "is %u, should be 0 to 9,999", (unsigned)fields->site);
 }
 
 static void name_message(char *name, size_t size, size_t k) {

@@ -25,6 +25,8 @@ void print_station(FILE *out, const struct station_line_block *block) {
     (void)fputs((block->flags & STATION_LINE_LEAVING) != 0 ? " leave" : " stay", out);
     for (size_t k = 0; k < station_line_bag_size(block); k++)
         (void)fprintf(out, " %s", message_text(block->messages[k].kind, block->messages[k].number).text);
+    if (block->site != 0)
+        (void)fprintf(out, " @%u", (unsigned)block->site);
     (void)fputc('\n', out);
 }
 

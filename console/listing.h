@@ -1,4 +1,4 @@
-/* The printed listing (document 01), and the lines for steps that go with it. Whether the printing worked is asked once, of the
+/* The printed listing (documents 01 and 02), and the lines for steps that go with it. Whether the printing worked is asked once, of the
  * stream, when all is printed. */
 #ifndef LISTING_H
 #define LISTING_H
@@ -8,8 +8,9 @@
 #include "station_line_layout.h"
 #include "walk.h"
 
-/* "number, left, right (`-` for none), `stay` or `leave`, then messages as `i` with the number, `l` or `r`", in stored order; a
- * line. A message of another kind, which no accepted table has, is `?` with kind and number. */
+/* "number, left, right (`-` for none), `stay` or `leave`, then messages as `i` with the number, `l` or `r`", in stored order, and
+ * "`@` with the number, or nothing for 0" for the site code (document 02, T-05); a line. A message of another kind, which no accepted
+ * table has, is `?` with kind and number. */
 void print_station(FILE *out, const struct station_line_block *block);
 
 /* The text of a message. */

@@ -76,7 +76,7 @@ static void print_waiting(const struct station_line_block *station, uint16_t kin
         (void)printf("×%zu", many);
 }
 
-/* The number, the leaving mark, what waits to be removed, and how full the bag is. */
+/* The number, the leaving mark, what waits to be removed, how full the bag is, and the site code. */
 static void print_label(const struct station_line_block *station) {
     bool left = copies(station, (struct station_line_message){STATION_LINE_REMOVE_LEFT, 0, 0}) > 0;
     (void)printf("%u%s", (unsigned)station->station, is_leaving(station) ? " leaving" : "");
@@ -84,6 +84,8 @@ static void print_label(const struct station_line_block *station) {
     print_waiting(station, STATION_LINE_REMOVE_RIGHT, "r", left ? " " : "\\n");
     if (station_line_bag_size(station) > 0)
         (void)printf("\\n%zu/%d", station_line_bag_size(station), STATION_LINE_MOST_MESSAGES);
+    if (station->site != 0)
+        (void)printf("%s@%u", station_line_bag_size(station) > 0 ? " " : "\\n", (unsigned)station->site);
 }
 
 static void print_node(const struct station_line_block *station, size_t place) {

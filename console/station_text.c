@@ -4,6 +4,7 @@ static const char not_a_number[] = "a station number is expected, 1 to 999,999";
 static const char not_a_neighbour[] = "a neighbour is expected, 1 to 999,999 or '-' for none";
 static const char not_a_mark[] = "'stay' or 'leave' is expected";
 static const char not_a_message[] = "a message is expected: 'i' with a number from 1 to 999,999, 'l' or 'r'";
+static const char not_a_site[] = "a site code is expected: '@' with a number from 0 to 9,999";
 static const char not_an_action[] = "'timeout', 'deliver' or 'exit' is expected";
 
 /* 1 to 999,999 */
@@ -51,19 +52,35 @@ static bool message_of(struct word word, uint16_t *kind, uint32_t *number) {
     return *kind != 0;
 }
 
-bool read_station_line(struct line line, struct station_line_block *block) {
-    *block = (struct station_line_block){.layout = 1};
-    if (!number_word(&line, &block->station) || !neighbour_word(&line, &block->left) || !neighbour_word(&line, &block->right) ||
-        !mark_word(&line, &block->flags))
-        return false;
-    struct word word;
-    for (; next_word(&line, &word); block->count++) {
+/* The messages, up to the end of the line or to the word of the site code. */
+static bool message_words(struct line *line, struct station_line_block *block, struct word *word) {
+    for (; next_word(line, word) && word->bytes[0] != '@'; block->count++) {
         if (block->count == STATION_LINE_MOST_MESSAGES)
-            return fault(&line, word, "a bag holds at most 32 messages");
-        if (!message_of(word, &block->messages[block->count].kind, &block->messages[block->count].number))
-            return fault(&line, word, not_a_message);
+            return fault(line, *word, "a bag holds at most 32 messages");
+        if (!message_of(*word, &block->messages[block->count].kind, &block->messages[block->count].number))
+            return fault(line, *word, not_a_message);
     }
     return true;
+}
+
+/* "its code at the end as one word, `@` with the number" (document 02, T-05); 0 is none, as if the word were not there. */
+static bool site_word(struct line *line, struct word word, uint16_t *site) {
+    uint32_t value;
+    if (!read_number(word.bytes + 1, word.len - 1, &value) || value > STATION_LINE_MOST_SITE)
+        return fault(line, word, not_a_site);
+    *site = (uint16_t)value;
+    if (next_word(line, &word))
+        return fault(line, word, "the site code is the last word of its line");
+    return true;
+}
+
+bool read_station_line(struct line line, struct station_line_block *block) {
+    *block = (struct station_line_block){.layout = 1};
+    struct word word;
+    if (!number_word(&line, &block->station) || !neighbour_word(&line, &block->left) || !neighbour_word(&line, &block->right) ||
+        !mark_word(&line, &block->flags) || !message_words(&line, block, &word))
+        return false;
+    return word.len == 0 || site_word(&line, word, &block->site);
 }
 
 static uint16_t action_of(struct word word) {
@@ -97,7 +114,7 @@ static bool present(uint32_t number, const struct station_line_block *stations, 
 }
 
 /* Whether a word is at fault: the station's own number (word 0), its left (1), its right (2) or a message (4 and on). A name of 0
- * is none. */
+ * is none, as that of the mark and of the site code. */
 static bool at_fault(uint32_t number, size_t word, uint32_t name, const struct station_line_block *stations, size_t count,
                      size_t before) {
     uint32_t own = stations[before].station;
@@ -115,8 +132,8 @@ bool find_fault(uint32_t number, struct line line, const struct station_line_blo
         uint32_t name = k == 0   ? own->station
                         : k == 1 ? own->left
                         : k == 2 ? own->right
-                        : k == 3 ? 0
-                                 : own->messages[k - 4].number;
+                        : k == 3 || k - 4 >= own->count ? 0
+                                                        : own->messages[k - 4].number;
         if (at_fault(number, k, name, stations, count, before))
             return true;
     }

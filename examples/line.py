@@ -38,9 +38,9 @@ def load(name):
     return library
 
 
-def block(station, left=0, right=0, leaving=False, messages=()):
-    """The 512 bytes of a station; messages such as "i7", "l", "r"."""
-    made = struct.pack("<HHIIIHH", 1, leaving, station, left, right, len(messages), 0)
+def block(station, left=0, right=0, leaving=False, messages=(), site=0):
+    """The 512 bytes of a station; messages such as "i7", "l", "r"; a site code of 0 is none."""
+    made = struct.pack("<HHIIIHH", 1, leaving, station, left, right, len(messages), site)
     made += b"".join(struct.pack("<HHI", KINDS[m[0]], 0, int(m[1:] or 0)) for m in messages)
     made = made.ljust(BLOCK - 2, b"\0")
     return made + struct.pack("<H", (65535 - sum(struct.unpack("<255H", made))) % 65536)
@@ -52,12 +52,12 @@ def step(action, station, message="-"):
 
 def line(bytes_):
     """The listing's line of a block."""
-    _, flags, station, left, right, count, _ = struct.unpack_from("<HHIIIHH", bytes_)
+    _, flags, station, left, right, count, site = struct.unpack_from("<HHIIIHH", bytes_)
     words = [str(station), str(left or "-"), str(right or "-"), "leave" if flags & 1 else "stay"]
     for k in range(count):
         kind, _, number = struct.unpack_from("<HHI", bytes_, 20 + 8 * k)
         words.append("%s%s" % ("?ilr"[kind], number or ""))
-    return " ".join(words)
+    return " ".join(words + ["@%d" % site] * (site != 0))
 
 
 def why(found):

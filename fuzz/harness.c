@@ -14,6 +14,8 @@
  *  - a roll call is refused for the table, then with 17 for more than 64 questions, then with 9 for too few records, and every record is
  *    then as it was, as are those past the questions; else each record is what the blocks say of its station, in the questions' order;
  *  - the line question agrees with the written table, read here;
+ *  - a site code above 9,999 is 4 where neither 1, 2 nor 3 applies; every station written has the code that it had; and the table with its
+ *    codes taken out gives the same answers, the same list, and the same bytes but for the codes and the check words;
  *  - the view gives a block at its place, and past the last one the end.
  *
  * The archive itself is not instrumented: it has no coverage counters and no sanitizer checks inside. Three things stand in for that.
@@ -38,7 +40,7 @@ __attribute__((section("__libfuzzer_extra_counters")))
 #endif
 static uint8_t counters[COUNTERS];
 
-uint64_t answers_met[16], lists_met[10], lines_met[2], reasons_met[4], stops_met[4], calls_met[18], records_met[4];
+uint64_t answers_met[16], lists_met[10], lines_met[2], reasons_met[4], stops_met[4], calls_met[18], records_met[4], sites_met[3];
 
 static void tell(uint32_t kind, uint32_t a, uint32_t b, uint32_t c)
 {
@@ -122,7 +124,23 @@ static struct station_line_leave leave_of(const uint8_t *table, size_t table_len
     return leave;
 }
 
-/* One run in a painted room, with the laws about the room and the counts. */
+/* Every station of what a run wrote has the site code that it had. A table by rising number, as most are, is walked once. */
+static void keep_sites(const struct result *r, const uint8_t *table, size_t table_len)
+{
+    size_t blocks = table_len / BLOCK, at = 0;
+    for (size_t k = 0; k < r->ran.stations; k++) {
+        const uint8_t *b = r->bytes + k * BLOCK;
+        size_t passed = 0;
+        while (passed < blocks && get32(table + at * BLOCK + 4) != get32(b + 4)) {
+            at = at + 1 < blocks ? at + 1 : 0;
+            passed++;
+        }
+        law(passed < blocks, "every station written was there");
+        law(get16(table + at * BLOCK + 18) == get16(b + 18), "every station written has the site code that it had");
+    }
+}
+
+/* One run in a painted room, with the laws about the room, the counts and the site codes. */
 static void run(struct result *r, const uint8_t *table, size_t table_len, const uint8_t *steps, size_t steps_len, size_t room_len,
                 enum place place)
 {
@@ -142,6 +160,7 @@ static void run(struct result *r, const uint8_t *table, size_t table_len, const 
     law(r->ran.answer == 14 || (r->ran.reason == 0 && r->ran.holder == 0), "no reason but at 14");
     law(rest_untouched(&rooms, room_len, place, written), "nothing but the written table is touched");
     memcpy(r->bytes, room, written);
+    keep_sites(r, table, table_len);
 }
 
 static void same(const struct result *a, const struct result *b, const char *what)
@@ -463,6 +482,7 @@ static void tell_run(const struct result *r, const struct cut *c)
         const uint8_t *b = r->bytes + (size_t)k * BLOCK;
         uint32_t sides = (get32(b + 8) != 0) + 2 * (uint32_t)(get32(b + 12) != 0), count = get16(b + 16);
         tell(6, get16(b + 2) * 4 + sides, count, r->ran.answer);
+        tell(11, size_class(get16(b + 18)), r->ran.answer, 0);
     }
 }
 
@@ -523,6 +543,49 @@ static void read_back(const struct result *whole, enum place place)
     law(memcmp(again.bytes, whole->bytes, written) == 0, "a run with no steps writes the same bytes");
 }
 
+/* The blocks with their site codes taken out and put into the check words, so that the words of each add up to what they did. */
+static void without_sites(uint8_t *plain, const uint8_t *table, size_t table_len)
+{
+    memcpy(plain, table, table_len);
+    for (size_t at = 0; at + BLOCK <= table_len; at += BLOCK) {
+        put16(plain + at + 510, get16(table + at + 510) + get16(table + at + 18));
+        put16(plain + at + 18, 0);
+    }
+}
+
+/* What is said of a table whose codes are inside the bound is said of the plain one, which has none. */
+static void same_without_sites(const struct cut *c, const uint8_t *plain, const struct result *whole, enum place place)
+{
+    static struct result without, taken_out;
+    static struct list here, there;
+    run(&without, plain, c->table_len, c->steps, c->steps_len, c->room_len, place);
+    taken_out.ran = whole->ran;
+    without_sites(taken_out.bytes, whole->bytes, (size_t)whole->ran.stations * BLOCK);
+    same(&taken_out, &without, "site codes play no part in a run");
+    list_steps(&here, c->table, c->table_len, MOST_LIST, place);
+    list_steps(&there, plain, c->table_len, MOST_LIST, place);
+    same_list(&here, &there, "site codes play no part in the list");
+}
+
+/* Site codes (document 02, T-05). Where one is above the bound the number is 4, unless the plain table has 1, 2 or 3. */
+static void laws_of_sites(const struct cut *c, uint32_t fault, const struct result *whole, enum place place)
+{
+    static uint8_t plain[MOST_TABLE];
+    int some = 0, above = 0;
+    for (size_t at = 0; at + BLOCK <= c->table_len; at += BLOCK) {
+        some = some || get16(c->table + at + 18) != 0;
+        above = above || get16(c->table + at + 18) > MOST_SITE;
+    }
+    sites_met[above ? 2 : some]++;
+    without_sites(plain, c->table, c->table_len);
+    if (above) {
+        uint32_t rest = station_line_check(lend_bytes(&tables, plain, c->table_len, place), c->table_len);
+        law(fault == (1 <= rest && rest <= 3 ? rest : 4), "a site code above the bound is refused with 4");
+    } else if (some) {
+        same_without_sites(c, plain, whole, place);
+    }
+}
+
 /* The list cut in two. */
 static void cut_list(const struct cut *c, const struct result *whole, enum place place)
 {
@@ -564,6 +627,7 @@ int LLVMFuzzerTestOneInput(const uint8_t *data, size_t size)
     laws_of_reason(&c, &whole, place);
     tell_run(&whole, &c);
     turn_blocks(&c, &whole, place);
+    laws_of_sites(&c, fault, &whole, place);
     if (1 <= whole.ran.answer && whole.ran.answer <= 9) {
         return 0;
     }

@@ -126,6 +126,40 @@ static void put_in_line(void)
     }
 }
 
+/* A site code, most of them inside the bound; the number of a station among them. */
+static uint32_t some_site(void)
+{
+    static const uint32_t edges[] = {0, 1, 255, 256, MOST_SITE};
+    switch (below(12)) {
+    case 0:
+        return MOST_SITE + 1 + below(300);
+    case 1:
+        return below(65536);
+    case 2:
+    case 3:
+        return number_of(table, blocks()) % (MOST_SITE + 1);
+    case 4:
+    case 5:
+    case 6:
+        return edges[below(5)];
+    default:
+        return 1 + below(MOST_SITE);
+    }
+}
+
+/* One block gets a site code, or each of them gets one that is inside the bound, or loses it. */
+static void change_sites(uint8_t *b)
+{
+    uint32_t all = below(5), n = blocks();
+    if (all > 1) {
+        put16(b + 18, some_site());
+        return;
+    }
+    for (uint32_t i = 0; i < n; i++) {
+        put16(table + (size_t)i * BLOCK + 18, all * (1 + below(MOST_SITE)));
+    }
+}
+
 static void change_table(void)
 {
     uint32_t n = blocks();
@@ -136,7 +170,7 @@ static void change_table(void)
         return;
     }
     uint8_t *b = table + (size_t)below(n) * BLOCK;
-    switch (below(12)) {
+    switch (below(13)) {
     case 0:
         put16(b + 2, get16(b + 2) ^ 1);
         break;
@@ -169,6 +203,9 @@ static void change_table(void)
         break;
     case 10:
         put_in_line();
+        break;
+    case 11:
+        change_sites(b);
         break;
     default:
         b[below(8) == 0 ? below(BLOCK) : below(36)] ^= (uint8_t)(1u << below(8));

@@ -1,14 +1,14 @@
 #!/usr/bin/env python3
 """Writes the seeds of fuzz/corpus: the printed example of document 01, the shorter cases of crates/situations/data/cases.bin, tables for the
-list of allowed steps, one for each thing that may hold a station, roll calls, and tables in line or not for one cause. Run it in the repository's root; with one argument it
-writes them below that folder. An input is four numbers of 32 bits (length of the table, of the step list, of the room; the station asked
-about), the table and the step list."""
+list of allowed steps, one for each thing that may hold a station, roll calls, tables in line or not for one cause, and tables with site
+codes. Run it in the repository's root; with one argument it writes them below that folder. An input is four numbers of 32 bits (length of
+the table, of the step list, of the room; the station asked about), the table and the step list."""
 import pathlib
 import struct
 import sys
 
 sys.path.insert(0, "tests")
-from layout import EXIT, INTRODUCTION, REMOVE_LEFT, REMOVE_RIGHT, TIMEOUT, block, step
+from layout import DELIVER, EXIT, INTRODUCTION, REMOVE_LEFT, REMOVE_RIGHT, TIMEOUT, at_site, block, step
 
 MOST = 3000
 corpus = pathlib.Path(sys.argv[1] if len(sys.argv) > 1 else ".", "fuzz/corpus")
@@ -96,3 +96,21 @@ line("neighbours", introductions, right3=9)
 line("remove-left", introductions + [(REMOVE_LEFT, 0)])
 line("remove-right", [(REMOVE_RIGHT, 0)] + introductions)
 line("leaving", introductions, leaving9=1)
+
+
+def sites(name, codes, steps):
+    """5 may exit between 3 and 9, and the bag of 7 introduces 3; they are stored by falling number, and have these site codes."""
+    stations = block(9), block(7, bag=[(INTRODUCTION, 3)]), block(5, left=3, right=9, leaving=1), block(3)
+    table = b"".join(map(at_site, stations, codes))
+    seed("site-" + name, table, steps, len(table), 5)
+
+
+departing = step(EXIT, 5) + step(DELIVER, 9, INTRODUCTION, 3) + step(DELIVER, 3, INTRODUCTION, 9) + step(TIMEOUT, 3)
+delivered = step(TIMEOUT, 5) + step(DELIVER, 7, INTRODUCTION, 3) + step(DELIVER, 3, REMOVE_RIGHT) + step(TIMEOUT, 7)
+sites("mixed", (9999, 0, 255, 256), delivered)
+sites("most", (9999, 9999, 9999, 9999), delivered + departing)
+sites("number", (5, 3, 9, 5), departing)
+sites("above", (9999, 10000, 1, 0), delivered)
+sites("above-low", (1, 2, 10255, 3), delivered)
+sites("exit", (1, 2, 3000, 4), departing)
+sites("exit-alone", (0, 0, 3000, 0), departing)

@@ -8,7 +8,8 @@
  * `records` does not overlap anything else that is handed over.
  *
  * A table is a run of 512-byte blocks, one per station, at most 64 of them. A step list is a run of 12-byte steps, at most 4,096
- * of them. Integers are little-endian. docs/FORMAT.md has every byte; station_line_layout.h takes a block or a step apart and puts it
+ * of them. A block may have a site code, 1 to 9,999: every step carries it unchanged, and nothing else looks at it (since version 2.3;
+ * before, its two bytes were 0). Integers are little-endian. docs/FORMAT.md has every byte; station_line_layout.h takes a block or a step apart and puts it
  * together.
  */
 #ifndef STATION_LINE_H
@@ -23,8 +24,8 @@ extern "C" {
 
 /* The version of this header; station_line_version() has that of the library that is linked. */
 #define STATION_LINE_VERSION_MAJOR 2
-#define STATION_LINE_VERSION_MINOR 2
-#define STATION_LINE_VERSION "2.2"
+#define STATION_LINE_VERSION_MINOR 3
+#define STATION_LINE_VERSION "2.3"
 
 /* Sizes. */
 #define STATION_LINE_BLOCK_BYTES 512
@@ -33,6 +34,7 @@ extern "C" {
 #define STATION_LINE_MOST_MESSAGES 32 /* in one bag */
 #define STATION_LINE_MOST_STEPS 4096
 #define STATION_LINE_MOST_NUMBER 999999 /* of a station; the least is 1 */
+#define STATION_LINE_MOST_SITE 9999 /* of a site code; 0 is none */
 #define STATION_LINE_TABLE_BYTES 32768 /* the longest table, and room for what a run writes of any */
 #define STATION_LINE_STEPS_BYTES 49152 /* the longest step list */
 #define STATION_LINE_MOST_ALLOWED 2112 /* steps that may happen next: a timeout and 32 deliveries for each of 64 stations */
@@ -155,7 +157,7 @@ struct station_line_viewed station_line_view(const uint8_t *table, size_t table_
  * can't be read, has words too; a number without a meaning has words that say so. */
 const char *station_line_words(uint32_t number);
 
-/* The version of the library, as "2.2". */
+/* The version of the library, as "2.3". */
 const char *station_line_version(void);
 
 #ifdef __cplusplus

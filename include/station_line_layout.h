@@ -30,12 +30,13 @@ struct station_line_message {
     uint32_t number;
 };
 
-/* The fields of a block. A left or right of 0 is none. The messages are the first `count` of the places; `count` is at most 32 in
- * a good block, and may be up to 65,535 in another. */
+/* The fields of a block. A left or right of 0 is none, and so is a site of 0. The messages are the first `count` of the places; `count`
+ * is at most 32 in a good block, and may be up to 65,535 in another, as `site` is at most 9,999 in a good one. Before version 2.3 bytes
+ * 18 and 19 were 0 in every good block, and the field was named `reserved`. */
 struct station_line_block {
     uint16_t layout, flags;
     uint32_t station, left, right;
-    uint16_t count, reserved;
+    uint16_t count, site;
     struct station_line_message messages[STATION_LINE_MOST_MESSAGES];
     uint16_t check;
 };
@@ -87,7 +88,7 @@ static inline void station_line_read_block(const uint8_t *bytes, struct station_
     block->left = station_line_get32(bytes + 8);
     block->right = station_line_get32(bytes + 12);
     block->count = station_line_get16(bytes + 16);
-    block->reserved = station_line_get16(bytes + 18);
+    block->site = station_line_get16(bytes + 18);
     for (k = 0; k < STATION_LINE_MOST_MESSAGES; k++) {
         block->messages[k].kind = station_line_get16(bytes + 20 + 8 * k);
         block->messages[k].gap = station_line_get16(bytes + 22 + 8 * k);
@@ -108,7 +109,7 @@ static inline void station_line_write_block(uint8_t *bytes, const struct station
     station_line_put32(bytes + 8, block->left);
     station_line_put32(bytes + 12, block->right);
     station_line_put16(bytes + 16, block->count);
-    station_line_put16(bytes + 18, block->reserved);
+    station_line_put16(bytes + 18, block->site);
     for (k = 0; k < station_line_bag_size(block); k++) {
         station_line_put16(bytes + 20 + 8 * k, block->messages[k].kind);
         station_line_put16(bytes + 22 + 8 * k, block->messages[k].gap);

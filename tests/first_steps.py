@@ -13,7 +13,7 @@ import struct
 
 import situations
 import tables
-from layout import DELIVER, EXIT, INTRODUCTION, REMOVE_LEFT, REMOVE_RIGHT, TIMEOUT, block, line64, step
+from layout import DELIVER, EXIT, INTRODUCTION, REMOVE_LEFT, REMOVE_RIGHT, TIMEOUT, at_site, block, line64, step
 from outputs import put
 from situations import L, R, Shuffle, almost, around, check, do_step, four, full, i, mixed, read_table, stored, unnamed, write_table
 
@@ -203,7 +203,7 @@ same_list("the start of the long run", [write_table(situations.start)], (5, 6))
 same_list("the table that the long run leaves", [write_table(situations.line)], (7,))
 
 # A table that is refused, in a long room, and in none: 1 to 7 before 9.
-refused = [(title, table, number) for title, table, number in tables.cases if number]
+refused = [(title, table, number) for title, table, number in tables.cases if number and (title, table, number) not in tables.sites]
 for title, table, number in refused:
     case(title, [table], number, 26000)
 for number in range(1, 8):
@@ -216,6 +216,16 @@ case("the longest list's table with its last block spoilt, a short room", longes
 for title, table, *_ in situations.cases:
     if table not in [known for _, known, *_ in cases]:
         case("before the run: " + title, [table])
+
+# Tables with site codes (document 02, T-05), which play no part, and those refused for one.
+case("codes that are the numbers of stations", map(at_site, mixed, (8, 9, 2, 5, 1, 9999)),
+     "1 t i2 i8 r | 2 t l r | 5 t i1 i2 i5 i9 | 8 t i1 i9 l r | 9 t | 999999 t i2 i5 i8 l")
+case("codes that are the number of the one that may exit", map(at_site, unnamed(bag3=almost), (5, 5, 5)), "3 t i3 l r | 5 t x | 9 t")
+case("codes of the longest list", [at_site(data, 9999) for data in longest], longest_says, 25344)
+case("codes of the longest list, in a room one byte too short", [at_site(data, 9999) for data in longest], 9, 25343)
+for title, table, number in tables.sites:
+    case(title, [table], number or None, 26000)
+case("site 10,000, no room", [block(5, site=10000)], 4, 0)
 
 assert {answer for _, _, _, answer, _ in cases} == {0, 1, 2, 3, 4, 5, 6, 7, 9}
 

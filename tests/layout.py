@@ -1,4 +1,5 @@
-"""Blocks and steps laid out byte by byte from document 01 ("The block", "The step list"), with no help from the crates."""
+"""Blocks and steps laid out byte by byte from document 01 ("The block", "The step list") and document 02 (T-05), with no help from the
+crates."""
 import struct
 
 INTRODUCTION, REMOVE_LEFT, REMOVE_RIGHT = 1, 2, 3
@@ -11,9 +12,9 @@ def sealed(body):
     return body + struct.pack("<H", (65535 - total) % 65536)
 
 
-def block(station, left=0, right=0, leaving=0, bag=(), layout=1, gap=0, count=None, rest=b""):
+def block(station, left=0, right=0, leaving=0, bag=(), layout=1, site=0, count=None, rest=b""):
     places = b"".join(struct.pack("<HHI", kind, 0, number) for kind, number in bag)
-    head = struct.pack("<HHIIIHH", layout, leaving, station, left, right, len(bag) if count is None else count, gap)
+    head = struct.pack("<HHIIIHH", layout, leaving, station, left, right, len(bag) if count is None else count, site)
     body = (head + places).ljust(510 - len(rest), b"\0") + rest
     return sealed(body)
 
@@ -25,6 +26,11 @@ def changed(data, at, value):
 
 def resealed(data, at, value):
     return sealed(changed(data, at, value)[:510])
+
+
+def at_site(data, site):
+    """The same block with another site code, which "stands in bytes 18-19" (document 02, T-05)."""
+    return sealed(data[:18] + struct.pack("<H", site) + data[20:510])
 
 
 def step(action, station, kind=0, number=0):

@@ -1,12 +1,12 @@
 #!/usr/bin/env python3
 """Writes the files that the listing programs read, and what they must print.
 
-The tables and steps are laid out from document 01 alone (layout.py), and each listing is written here by the words of document 01
-("The printed listing", "The numbers a crew may see"), not taken from what a program printed. Run it in the repository's root; what
-it writes is kept in the repository: examples/, data/ and stdout of `listing`, and data/, args and stdout of `listing_cases`
-(outputs.py: or writes them below another folder).
+The tables and steps are laid out from documents 01 and 02 alone (layout.py), and each listing is written here by the words of document
+01 ("The printed listing", "The numbers a crew may see") and document 02 (T-02, T-05), not taken from what a program printed. Run it in
+the repository's root; what it writes is kept in the repository: examples/, data/ and stdout of `listing`, and data/, args and stdout of
+`listing_cases` (outputs.py: or writes them below another folder).
 """
-from layout import DELIVER, EXIT, INTRODUCTION, REMOVE_LEFT, TIMEOUT, block, changed, line64, step
+from layout import DELIVER, EXIT, INTRODUCTION, REMOVE_LEFT, TIMEOUT, at_site, block, changed, line64, step
 from outputs import put
 
 # ---- the example of document 01 ----
@@ -67,7 +67,12 @@ TABLES = {
     "fault-6": TABLE + block(9),
     "fault-7": TABLE + block(11, left=10),
     "full-fault-3": FULL[:-512] + changed(line64[63], 511, 0),
+    # site codes (document 02, T-05), some stations with none
+    "sites": b"".join(map(at_site, FOUR, (9999, 1, 256, 0))),
+    "site-10000": b"".join(map(at_site, FOUR, (9999, 1, 256, 10000))),
+    "sole-site": block(5, leaving=1, site=7),
 }
+TABLES["crowded-sites"] = b"".join(at_site(TABLES["crowded"][at:at + 512], 9999) for at in range(0, 32768, 512))
 STEPS = {
     "example": STEP,
     "empty": b"",
@@ -92,6 +97,20 @@ LINE_OF_64 = "".join("%d %s %s stay\n" % (p, p - 1 or "-", p + 1 if p < 64 else 
 WORDS = "".join(" i%d" % q for q in NAMED)
 LINE_OF_CROWD = "".join("%d %s %s leave%s\n" % (p, p - 1 if p > CROWD[0] else "-", p + 1 if p < LAST else "-", WORDS) for p in CROWD)
 HELD_LINES = "3 - 5 stay\n5 3 9 leave\n9 5 - stay"
+# "gains its code at the end as one word, `@` with the number, or nothing for 0" (document 02, T-05)
+AFTER_SITES = """\
+3 - 5 stay @9999
+5 3 7 stay @1
+7 - - stay i9 @256
+9 5 - stay
+"""
+BEFORE_SITES = """\
+3 - 5 stay @9999
+5 3 9 stay i7 @1
+7 - - stay @256
+9 5 - stay
+"""
+LINE_OF_SITES = LINE_OF_CROWD.replace("\n", " @9999\n")
 
 CASES = [
     ("example", "example", first_line(0, 1, 4) + AFTER),
@@ -154,6 +173,16 @@ CASES = [
     (FOLDER, "fault-8", first_line(16)),
     ("one-byte-more", "fault-8", first_line(16)),
     ("65-blocks", "refused-10", first_line(16)),
+    # codes behind messages, without messages, and none; the longest lines; and a code that is refused
+    ("sites", "example", first_line(0, 1, 4) + AFTER_SITES),
+    ("sites", "empty", first_line(0, 0, 4) + BEFORE_SITES),
+    ("sites", "refused-12", first_line(12, 1, 4) + AFTER_SITES),
+    ("crowded-sites", "empty", first_line(0, 0, 64) + LINE_OF_SITES),
+    ("crowded-sites", "exit-last", first_line(14, 0, 64, " bag") + LINE_OF_SITES),
+    ("sole-site", "timeout-5", first_line(0, 1, 1) + "5 - - leave @7\n"),
+    ("sole-site", "exit-5", first_line(0, 1, 0)),
+    ("site-10000", "example", first_line(4)),
+    ("site-10000", MISSING, first_line(16)),
 ]
 
 

@@ -2,10 +2,11 @@
 """Writes the runs that the program `situations` makes, and what it must print.
 
 Below is a reading of document 01 in plain Python, made from the document before the crates of the machine were opened: the check
-(1 to 7), the run (8 to 15), the two questions and the printed listing; and of document 02, T-02: why a station may not leave. The
-thirteen situations, the printed example and most other cases also say by hand what must be printed, and the script stops if the
-reading gives another. Run it in the repository's root; it writes crates/situations/data/cases.bin, crates/situations/stdout and
-tests/questions.txt, which are kept in the repository (outputs.py: or writes them below another folder).
+(1 to 7), the run (8 to 15), the two questions and the printed listing; and of document 02: why a station may not leave (T-02), what
+lasts in line (T-04), and the site codes (T-05). The thirteen situations, the printed example and most other cases also say by hand what
+must be printed, and the script stops if the reading gives another. Run it in the repository's root; it writes
+crates/situations/data/cases.bin, crates/situations/stdout and tests/questions.txt, which are kept in the repository (outputs.py: or
+writes them below another folder).
 
 A case in cases.bin is three numbers of 32 bits (length of the table, of the step list, of the room), the table and the
 step list. A line of questions.txt is a case and a question that is asked of its table as it is before the run: `leave`, a
@@ -18,7 +19,7 @@ import struct
 
 import tables
 from layout import DELIVER, EXIT, INTRODUCTION, REMOVE_LEFT, REMOVE_RIGHT, TIMEOUT
-from layout import block, changed, line64, resealed, step
+from layout import at_site, block, changed, line64, resealed, step
 from outputs import put
 
 # ---- the reading of documents 01 and 02 ----
@@ -27,8 +28,8 @@ NO_REASON, MAY_LEAVE, OWN_BAG, HELD_BY = range(4)       # as include/station_lin
 
 
 class Station:
-    def __init__(self, left, right, leaving, bag):
-        self.left, self.right, self.leaving, self.bag = left, right, leaving, bag
+    def __init__(self, left, right, leaving, bag, site=0):
+        self.left, self.right, self.leaving, self.bag, self.site = left, right, leaving, bag, site
 
 
 def is_number(n):
@@ -48,18 +49,19 @@ def well_summed(data):
 
 
 def in_layout(data):
-    layout, mark, station, left, right, count, gap = struct.unpack("<HHIIIHH", data[:20])
+    layout, mark, station, left, right, count, site = struct.unpack("<HHIIIHH", data[:20])
     places = [struct.unpack("<HHI", data[a:a + 8]) for a in range(20, 276, 8)]
     return (layout == 1 and mark in (0, 1) and is_number(station)
-            and (left == 0 or is_number(left)) and (right == 0 or is_number(right)) and count <= 32 and gap == 0
+            and (left == 0 or is_number(left)) and (right == 0 or is_number(right)) and count <= 32
+            and site <= 9999        # "It refuses a code above 9,999 with 4" (document 02, T-05)
             and all(is_message(kind, number) and zero == 0 for kind, zero, number in places[:count])
             and all(place == (0, 0, 0) for place in places[count:]) and not any(data[276:510]))
 
 
 def read_block(data):
-    _, mark, station, left, right, count, _ = struct.unpack("<HHIIIHH", data[:20])
+    _, mark, station, left, right, count, site = struct.unpack("<HHIIIHH", data[:20])
     bag = [struct.unpack("<HxxI", data[a:a + 8]) for a in range(20, 20 + 8 * count, 8)]
-    return station, Station(left, right, mark == 1, bag)
+    return station, Station(left, right, mark == 1, bag, site)
 
 
 def names(here):
@@ -95,7 +97,7 @@ def read_table(table):
 
 def write_table(line):
     """Blocks by rising station number, messages by kind and then by number."""
-    return b"".join(block(p, s.left, s.right, int(s.leaving), sorted(s.bag)) for p, s in sorted(line.items()))
+    return b"".join(block(p, s.left, s.right, int(s.leaving), sorted(s.bag), site=s.site) for p, s in sorted(line.items()))
 
 
 def leave_reason(line, p):
@@ -240,7 +242,9 @@ def listing(answer, done, reason, table):
     for data in blocks_of(table or b""):
         p, s = read_block(data)
         sides = ["%d" % q if q else "-" for q in (s.left, s.right)]
-        lines.append(" ".join(["%d" % p] + sides + ["leave" if s.leaving else "stay"] + [word(m) for m in s.bag]))
+        # "its code at the end as one word, `@` with the number, or nothing for 0" (document 02, T-05)
+        site = ["@%d" % s.site] if s.site else []
+        lines.append(" ".join(["%d" % p] + sides + ["leave" if s.leaving else "stay"] + [word(m) for m in s.bag] + site))
     return lines
 
 
@@ -376,7 +380,7 @@ for title, table, number in [
         ("a count of 33", [block(5, bag=[i(5)] * 33)], 4),
         ("a count of 33 over 32 places", [block(5, bag=[i(5)] * 32, count=33)], 4),
         ("a count below the places used", [block(5, bag=[i(5)] * 2, count=1)], 4),
-        ("bytes 18-19", [block(5, gap=1)], 4),
+        ("site 10,000", [block(5, site=10000)], 4),
         ("a gap byte of a place", [resealed(block(5, bag=[i(5)]), 22, 1)], 4),
         ("byte 509", [resealed(block(5), 509, 1)], 4),
         ("left above", [block(5, left=9), block(9)], 5),
@@ -572,7 +576,7 @@ class Shuffle:
 
 def stored(line, shuffle):
     """The blocks of a line, in some order and each with its messages in some order."""
-    return [block(p, s.left, s.right, int(s.leaving), shuffle.of(s.bag)) for p, s in shuffle.of(sorted(line.items()))]
+    return [block(p, s.left, s.right, int(s.leaving), shuffle.of(s.bag), site=s.site) for p, s in shuffle.of(sorted(line.items()))]
 
 
 def same_output(title, table, steps, seeds):
@@ -699,6 +703,121 @@ def sixty_four(last):
 
 lined("in line, 64 full bags", True, sixty_four(i(1)))
 lined("not in line, a removal in the last place of the last of 64 full bags", False, sixty_four(R))
+
+# Site codes (document 02, T-05): "Every step carries it unchanged. It plays no part in any order, step rule or NIDEC."
+
+
+def answered(table, steps):
+    """What a run and the questions say, with the codes left out of the lines printed."""
+    stations = sorted(read_table(table)) if check(table) == 0 else []
+    listed = [text.split(" @")[0] for text in listing(*run(table, steps, len(table)))]
+    return listed, in_line(table), [may_leave(table, p) for p in stations]
+
+
+def coded(title, codes, table, steps=(), says=None):
+    """A case whose blocks have these codes in stored order. With none of them the answers are the same, but for the codes printed."""
+    assert len(codes) == len(table), title
+    with_codes = [at_site(b, code) for b, code in zip(table, codes)]
+    assert answered(b"".join(with_codes), b"".join(steps)) == answered(b"".join(table), b"".join(steps)), title
+    return case(title, with_codes, steps, None, says)
+
+
+def over(title, codes, table, steps=(timeout(5),)):
+    """Blocks that are good but for their codes."""
+    assert len(codes) == len(table) and check(b"".join(table)) == 0, title
+    case(title, map(at_site, table, codes), steps, None, "answer 4 done 0 stations 0")
+
+
+# What a step does, at stations with codes: 3, 5, 9, and then the others.
+coded("codes, an introduction between", (31, 52, 93, 74), around(block(7), bag=[i(7)]), [deliver(5, i(7))],
+      "answer 0 done 1 stations 4 | 3 - 5 stay @31 | 5 3 7 stay @52 | 7 - - stay i9 @74 | 9 5 - stay @93")
+coded("codes, an introduction between on the left", (31, 52, 93, 44), around(block(4), bag=[i(4)]), [deliver(5, i(4))],
+      "answer 0 done 1 stations 4 | 3 - 5 stay @31 | 4 - - stay i3 @44 | 5 4 9 stay @52 | 9 5 - stay @93")
+coded("codes, a first right", (31, 52, 93, 124), around(block(12), right=0, bag=[i(12), L]), [deliver(5, i(12))],
+      "answer 0 done 1 stations 4 | 3 - 5 stay @31 | 5 3 12 stay l @52 | 9 5 - stay @93 | 12 - - stay @124")
+coded("a code at the one that receives, and nowhere else", (0, 0, 1, 0), around(block(12), bag=[i(12)]), [deliver(5, i(12))],
+      "answer 0 done 1 stations 4 | 3 - 5 stay | 5 3 9 stay | 9 5 - stay i12 @1 | 12 - - stay")
+coded("a code at the one that sends, and nowhere else", (0, 1, 0, 0), around(block(12), bag=[i(12)]), [deliver(5, i(12))],
+      "answer 0 done 1 stations 4 | 3 - 5 stay | 5 3 9 stay @1 | 9 5 - stay i12 | 12 - - stay")
+coded("codes, remove-left", (300, 500, 900), around(bag=[L]), [deliver(5, L)],
+      "answer 0 done 1 stations 3 | 3 - 5 stay i5 @300 | 5 - 9 stay @500 | 9 5 - stay @900")
+coded("codes, remove-left at one that leaves", (300, 500, 900), around(leaving=1, bag=[L]), [deliver(5, L)],
+      "answer 0 done 1 stations 3 | 3 - 5 stay @300 | 5 3 9 leave @500 | 9 5 - stay @900")
+coded("codes, remove-right", (300, 500, 900), around(bag=[R]), [deliver(5, R)],
+      "answer 0 done 1 stations 3 | 3 - 5 stay @300 | 5 3 - stay @500 | 9 5 - stay i5 @900")
+coded("codes, remove-right at one that leaves", (300, 500, 900), around(leaving=1, bag=[R]), [deliver(5, R)],
+      "answer 0 done 1 stations 3 | 3 - 5 stay @300 | 5 3 - leave @500 | 9 5 - stay i5 @900")
+coded("codes, staying, timeout", (3000, 5000, 9000), around(), [timeout(5)],
+      "answer 0 done 1 stations 3 | 3 - 5 stay i5 @3000 | 5 3 9 stay @5000 | 9 5 - stay i5 @9000")
+coded("codes, leaving, timeout", (3000, 5000, 9000), around(leaving=1), [timeout(5)],
+      "answer 0 done 1 stations 3 | 3 - 5 stay r @3000 | 5 3 9 leave @5000 | 9 5 - stay l @9000")
+coded("codes, an exit between two", (3333, 5555, 9999), unnamed(), [leave(5)],
+      "answer 0 done 1 stations 2 | 3 - - stay i9 @3333 | 9 - - stay i3 @9999")
+coded("a code that goes with its station", (0, 5555, 0), unnamed(), [leave(5)],
+      "answer 0 done 1 stations 2 | 3 - - stay i9 | 9 - - stay i3")
+coded("codes on both sides of an exit without one", (3333, 0, 9999), unnamed(), [leave(5), deliver(9, i(3)), deliver(3, i(9))],
+      "answer 0 done 3 stations 2 | 3 - 9 stay @3333 | 9 3 - stay @9999")
+coded("codes, a leaving station takes itself out", (256, 1, 255), around(leaving=1),
+      [timeout(5), deliver(3, R), deliver(9, L), deliver(5, i(3)), deliver(5, i(9)), leave(5), deliver(3, i(9)), deliver(9, i(3))],
+      "answer 0 done 8 stations 2 | 3 - 9 stay @256 | 9 3 - stay @255")
+assert coded("a code, a sole station exits", (9999,), [leaver], [leave(5)], "answer 0 done 1 stations 0") == b""
+
+# The order, and the numbers from 1 to 9,999: 255 has the low byte alone, 256 the high one, and 257 both.
+coded("codes that fall while the numbers rise, stored by rising code", (1, 20, 300, 4000), four[::-1], [deliver(5, i(7))],
+      "answer 0 done 1 stations 4 | 3 - 5 stay @4000 | 5 3 7 stay @300 | 7 - - stay i9 @20 | 9 5 - stay @1")
+coded("equal codes", (7, 7, 7, 7), four, [deliver(5, i(7)), timeout(9)],
+      "answer 0 done 2 stations 4 | 3 - 5 stay @7 | 5 3 7 stay i9 @7 | 7 - - stay i9 @7 | 9 5 - stay @7")
+coded("codes that are the numbers of other stations", (5, 9, 3, 5), four, [deliver(5, i(7)), deliver(7, i(9))],
+      "answer 0 done 2 stations 4 | 3 - 5 stay @5 | 5 3 7 stay @9 | 7 - 9 stay @3 | 9 5 - stay @5")
+coded("codes of one byte and of two", (9999, 255, 256, 257, 1, 10, 9998), [block(k) for k in range(1, 8)], [timeout(4)],
+      "answer 0 done 1 stations 7 | 1 - - stay @9999 | 2 - - stay @255 | 3 - - stay @256 | 4 - - stay @257 | 5 - - stay @1"
+      " | 6 - - stay @10 | 7 - - stay @9998")
+coded("codes behind a full bag, and beside it", (9999, 1), [block(3, bag=full), block(9)], [],
+      "answer 0 done 0 stations 2 | 3 - - stay%s @9999 | 9 - - stay @1" % full_words)
+coded("the largest station with the largest code", (9999, 9999), [block(999999, bag=[i(1)]), block(1, right=999999)],
+      [deliver(999999, i(1)), timeout(1)],
+      "answer 0 done 2 stations 2 | 1 - 999999 stay @9999 | 999999 1 - stay i1 @9999")
+
+# Refused steps: the table is written with its codes. A code that is a station's number holds nobody.
+coded("codes, 10 after two steps", (1, 2, 3, 4), four, [deliver(5, i(7)), timeout(3), bytes(12)],
+      "answer 10 done 2 stations 4 | 3 - 5 stay @1 | 5 3 7 stay i3 @2 | 7 - - stay i9 @3 | 9 5 - stay @4")
+coded("codes, 11 after an exit", (3333, 5555, 9999), unnamed(), [leave(5), timeout(5)],
+      "answer 11 done 1 stations 2 | 3 - - stay i9 @3333 | 9 - - stay i3 @9999")
+coded("codes, 12", (300, 500, 900), around(bag=[i(3)]), [deliver(5, i(9))],
+      "answer 12 done 0 stations 3 | 3 - 5 stay @300 | 5 3 9 stay i3 @500 | 9 5 - stay @900")
+coded("codes, 13", (300, 500, 900), unnamed(leaving=0), [leave(5)],
+      "answer 13 done 0 stations 3 | 3 - - stay @300 | 5 3 9 stay @500 | 9 - - stay @900")
+coded("codes, 14, its own bag", (300, 500, 900), unnamed(bag=[L]), [leave(5)],
+      "answer 14 done 0 stations 3 bag | 3 - - stay @300 | 5 3 9 leave l @500 | 9 - - stay @900")
+coded("codes, 14, the smallest holder has the largest code", (9999, 500, 1, 2), around(block(12, left=5), leaving=1), [leave(5)],
+      "answer 14 done 0 stations 4 held-by 3 | 3 - 5 stay @9999 | 5 3 9 leave @500 | 9 5 - stay @1 | 12 5 - stay @2")
+coded("codes that are the number of the one that exits", (5, 5, 5), unnamed(), [leave(5)],
+      "answer 0 done 1 stations 2 | 3 - - stay i9 @5 | 9 - - stay i3 @5")
+coded("codes, 15, timeout", (300, 500, 900), unnamed(leaving=0, bag9=full), [timeout(5)],
+      "answer 15 done 0 stations 3 | 3 - - stay @300 | 5 3 9 stay @500 | 9 - - stay%s @900" % full_words)
+coded("codes, 15, exit", (300, 500, 900), unnamed(bag3=full), [leave(5)],
+      "answer 15 done 0 stations 3 | 3 - - stay%s @300 | 5 3 9 leave @500 | 9 - - stay @900" % full_words)
+
+# Above 9,999. The low byte of 10,255 is that of 9,999, and the low byte of 10,240 is 0.
+over("site 10,000 behind 9,999", (9999, 9999, 9999, 10000), four)
+over("site 10,000 before 9,999", (10000, 9999, 9999, 9999), four)
+for code in (10255, 10240, 16384, 32768, 65535):
+    over("site %d" % code, (code,), [block(5)])
+over("site 65,535 at the last of 64", [0] * 63 + [65535], line64)
+over("4 for a site before 8", (10000,), [block(5)], [b"\0"])
+
+# Many of them, in line (document 02, T-04) and not.
+lined("in line, with codes that fall", True, list(map(at_site, three(itself), (1, 9999, 255))), [deliver(3, i(9))],
+      "answer 0 done 1 stations 3 | 3 - 5 stay i5 @9999 | 5 3 9 stay i3 i5 i9 i9 @255 | 9 5 - stay i3 i3 @1")
+coded("codes of 64 full bags", [9999] * 64, sixty_four(i(1)), [deliver(1, i(1))],
+      " | ".join(["answer 0 done 1 stations 64", "1 - 2 stay" + " i1" * 31 + " @9999"]
+                 + ["%d %d %s stay%s @9999" % (k, k - 1, k + 1 if k < 64 else "-",
+                                               "".join(" i%d" % q for q in sorted([k] * 31 + [65 - k]))) for k in range(2, 65)]))
+coded("codes of 64 stations and a full bag in the middle", range(9999, 9935, -1), line64,
+      [timeout(32)] * 20 + [timeout(30)] * 32 + [timeout(32)])
+same_output("codes in a mixed table", map(at_site, mixed, (9999, 1, 0, 256, 255, 1)),
+            [deliver(5, i(9)), timeout(2), deliver(8, R), leave(9)], (13, 14))
+coded("the first half of the long run, with codes", [1 + k * 4999 % 9999 for k in range(64)], stored(start, Shuffle(15)), chosen[:2048])
 
 assert {answer for _, _, _, _, answer, _ in cases} == set(range(16))
 

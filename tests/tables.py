@@ -1,13 +1,14 @@
 #!/usr/bin/env python3
 """Writes the tables that the program `checks` reads, and what it must print.
 
-The blocks are laid out from document 01 ("The block") alone (layout.py), with no help from the crates, and each case
-names the number that document 01 gives it. Run it in the repository's root; it writes crates/checks/data/cases.bin
-and crates/checks/stdout, which are kept in the repository (outputs.py: or writes them below another folder).
+The blocks are laid out from document 01 ("The block") and document 02 (T-05) alone (layout.py), with no help from the
+crates, and each case names the number that the documents give it. Run it in the repository's root; it writes
+crates/checks/data/cases.bin and crates/checks/stdout, which are kept in the repository (outputs.py: or writes them below
+another folder).
 """
 import struct
 
-from layout import INTRODUCTION, REMOVE_LEFT, REMOVE_RIGHT, block, changed, line64, resealed
+from layout import INTRODUCTION, REMOVE_LEFT, REMOVE_RIGHT, at_site, block, changed, line64, resealed
 from outputs import put
 
 good = block(3, right=5), block(5, left=3, right=9, bag=[(INTRODUCTION, 7)]), block(7), block(9, left=5)
@@ -47,7 +48,7 @@ cases = [
     ("a count of 33", block(5, bag=[(INTRODUCTION, 5)] * 33), 4),
     ("a count above the places used", block(5, count=1), 4),
     ("a count below the places used", block(5, bag=[(INTRODUCTION, 5)] * 2, count=1), 4),
-    ("bytes 18-19", block(5, gap=1), 4),
+    ("site 10,000", block(5, site=10000), 4),
     ("kind 0", block(5, bag=[(0, 0)]), 4),
     ("kind 4", block(5, bag=[(4, 0)]), 4),
     ("an introduction of 0", block(5, bag=[(INTRODUCTION, 0)]), 4),
@@ -86,6 +87,35 @@ cases = [
     ("7 and 4", field + block(5, left=3), 4),
     ("3 and 4 in one block", changed(block(5, layout=2), 500, 1), 3),
 ]
+
+# "a site code, 0 to 9,999, with 0 for none", "a code above 9,999 with 4" (document 02, T-05)
+coded = block(9, site=10000)                # 4
+sites = [
+    ("site 1", block(5, site=1), 0),
+    ("site 255", block(5, site=255), 0),
+    ("site 256", block(5, site=256), 0),
+    ("site 9,999", block(5, site=9999), 0),
+    ("sites of the four stations", b"".join(map(at_site, good, (9999, 256, 0, 9999))), 0),
+    ("site 10,000, behind three that are good", b"".join(map(at_site, good, (9999, 255, 1, 10000))), 4),
+    ("site 10,255, whose low byte is that of 9,999", block(5, site=10255), 4),
+    ("site 32,768", block(5, site=32768), 4),
+    ("site 65,535", block(5, site=65535), 4),
+    ("site 9,999, under the check word of none", changed(changed(block(5), 18, 15), 19, 39), 3),
+    ("site 3 is no station 3", block(5, left=3, site=3) + block(7, site=3), 7),
+    ("two sites of one station", block(5, site=1) + block(5, site=2), 6),
+    # two faults, in both orders of the blocks
+    ("3 and a site", spoilt + coded, 3),
+    ("a site and 3", coded + spoilt, 3),
+    ("a site and 5", coded + sides, 4),
+    ("5 and a site", sides + coded, 4),
+    ("a site and 6", coded + block(5) + block(5), 4),
+    ("6 and a site", block(5) + block(5) + coded, 4),
+    ("a site and 7", coded + block(5, left=3), 4),
+    ("7 and a site", block(5, left=3) + coded, 4),
+    ("3 and a site in one block", changed(coded, 500, 1), 3),
+    ("a site and 5 in one block", block(5, left=5, site=10000), 4),
+]
+cases += sites
 
 if __name__ == "__main__":
     put("crates/checks/data/cases.bin", b"".join(struct.pack("<I", len(table)) + table for _, table, _ in cases))

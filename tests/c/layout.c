@@ -45,6 +45,11 @@ void add_message(uint8_t *block, uint32_t kind, uint32_t number) {
     seal(block);
 }
 
+void put_site(uint8_t *block, uint32_t site) {
+    put16(block + 18, site);
+    seal(block);
+}
+
 void put_step(uint8_t *step, uint32_t action, uint32_t kind, uint32_t station, uint32_t number) {
     put16(step, action);
     put16(step + 2, kind);

@@ -1,4 +1,4 @@
-/* Bytes of blocks and steps, laid out from document 01 ("The block", "The step list") alone. */
+/* Bytes of blocks and steps, laid out from document 01 ("The block", "The step list") and document 02 (T-05) alone. */
 #ifndef LAYOUT_H
 #define LAYOUT_H
 
@@ -20,6 +20,9 @@ void put_block(uint8_t *block, uint32_t station, uint32_t left, uint32_t right, 
 
 /* One message more, behind those that the block has. */
 void add_message(uint8_t *block, uint32_t kind, uint32_t number);
+
+/* Another site code, which "stands in bytes 18-19" (document 02, T-05); put_block gives none. */
+void put_site(uint8_t *block, uint32_t site);
 
 void put_step(uint8_t *step, uint32_t action, uint32_t kind, uint32_t station, uint32_t number);
 

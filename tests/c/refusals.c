@@ -40,9 +40,12 @@ static void try_tables(void) {
     table[300] = 1;
     refuse_table("3: a byte changed", 3, table, EXAMPLE, EXAMPLE);
     put_example(table);
-    put16(table + 18, 1);
-    seal(table);
-    refuse_table("4: bytes 18-19", 4, table, EXAMPLE, EXAMPLE);
+    put_site(table, 10000);
+    refuse_table("4: a site code of 10,000", 4, table, EXAMPLE, EXAMPLE);
+    put_site(table, 9999);
+    put_site(table + 3 * BLOCK, 65535);
+    refuse_table("4: a site code of 65,535, behind one of 9,999", 4, table, EXAMPLE, EXAMPLE);
+    put_example(table);
     put_block(table, 3, 5, 0, 0);
     refuse_table("5: a left above its station", 5, table, EXAMPLE, EXAMPLE);
     put_block(table, 5, 0, 0, 0);

@@ -21,6 +21,7 @@ void try_allowed(void);
 void try_questions(void);
 void try_roll_call(void);
 void try_views(void);
+void try_sites(void);
 
 /* The questions of tests/questions.txt about the tables of cases.bin: one case for each table. */
 void try_stored(const char *cases, const char *questions);

@@ -12,7 +12,7 @@ of_table() {
 group 'check: the field behind 4'
 for field in '512 02 00:layout number at 512 is 2, should be 1' '514 02 00:flags at 514 is 2, should be 0 or 1' \
     '516 00 00 00 00:station number at 516 is 0, should be 1 to 999,999' '520 40 42 0f 00:left at 520 is 1000000, should be 0 to 999,999' \
-    '524 ff ff ff ff:right at 524 is 4294967295, should be 0 to 999,999' '530 01 00:bytes 18 and 19 at 530 is 1, should be 0' \
+    '524 ff ff ff ff:right at 524 is 4294967295, should be 0 to 999,999' '530 10 27:site code at 530 is 10000, should be 0 to 9,999' \
     '532 04 00:message 1 at 532 has kind 4, should be 1 to 3' '534 01 00:message 1 at 534 has 1 between kind and number, should be 0' \
     '536 00 00 00 00:message 1 at 536 introduces 0, should be 1 to 999,999' \
     '532 02 00:message 1 at 536 has number 7, should be 0' '541 09:a place behind the messages at 541 is 9, should be 0; 1 such byte up to 787' \

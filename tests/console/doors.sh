@@ -51,7 +51,7 @@ head -c 2047 table.bin > 1.bin
 cp table.bin 3.bin
 printf '\1' | dd of=3.bin bs=1 seek=300 conv=notrunc status=none
 cp table.bin 4.bin
-patch 4.bin 18 01 00
+patch 4.bin 18 10 27
 cp table.bin 5.bin
 patch 5.bin 8 05 00 00 00
 cat table.bin one.bin > 6.bin

@@ -30,7 +30,7 @@ include/station_line_layout.h
 lib64/libstation_line.a
 lib64/libstation_line.so
 lib64/libstation_line.so.2
-lib64/libstation_line.so.2.2
+lib64/libstation_line.so.2.3
 lib64/pkgconfig/station-line.pc
 share/bash-completion/completions/station-line
 share/man/man1/station-line.1

@@ -87,8 +87,10 @@ static void made_by_hand(void) {
     expect(check_of(&block) == STATION_LINE_FIELD, "is not refused with 4", "layout 2");
     block = alone(), block.flags = 2;
     expect(check_of(&block) == STATION_LINE_FIELD, "is not refused with 4", "another flag");
-    block = alone(), block.reserved = 1;
-    expect(check_of(&block) == STATION_LINE_FIELD, "is not refused with 4", "bytes 18 and 19");
+    block = alone(), block.site = STATION_LINE_MOST_SITE;
+    expect(check_of(&block) == STATION_LINE_DONE, "is refused", "the largest site code");
+    block.site++;
+    expect(check_of(&block) == STATION_LINE_FIELD, "is not refused with 4", "a site code above the largest");
     block = alone(), block.messages[1].gap = 1;
     expect(check_of(&block) == STATION_LINE_FIELD, "is not refused with 4", "a gap");
     block = alone(), block.count = 33;

@@ -9,7 +9,7 @@ use crate::random::Random;
 use crate::steps;
 
 /// The longest list.
-const MOST: usize = 2112;
+pub const MOST: usize = 2112;
 
 /// What is to be met of the tables that are accepted, and of the rooms for their lists.
 const TABLES: [&str; 8] = [

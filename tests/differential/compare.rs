@@ -11,6 +11,7 @@ use crate::lining::same_line;
 use crate::random::Random;
 use crate::reasons;
 use crate::roll_call::{OneByOne, same_roll_call};
+use crate::sites::{another_code, same_sites};
 use crate::tables::{self, BLOCK};
 use crate::tally::{Comparison, Tally};
 
@@ -95,6 +96,9 @@ pub fn compare(random: &mut Random, case: &Case, tally: &mut Tally) -> Result<()
         let joined = same_joins(case, ran, &room.bytes()[..written.len()], tally);
         tally.compared(Comparison::Joins, joined)?;
     }
+    let written = &room.bytes()[..written.len()];
+    let coded = same_sites(random, case, ran, written, &mut tally.sites);
+    tally.compared(Comparison::Sites, coded)?;
     if case.kind == RECEIVERS || random.percent(15) {
         let agreed = two_receivers(random, case, tally);
         tally.compared(Comparison::Receivers, agreed)?;
@@ -227,7 +231,7 @@ fn same_joins(
 
 /// Receivers that hold the same table in different stored orders write the same bytes and give the same numbers, the reason of a 14 among
 /// them, whether one of them is handed the list whole or in pieces, with its table stored anew in between. They also answer the leave
-/// question alike.
+/// question alike. Where one of them has another site code at a station, that alone differs.
 fn two_receivers(random: &mut Random, case: &Case, tally: &mut Tally) -> Result<(), String> {
     let first = archive::receive(&case.table, &case.steps);
     let mut shuffled = tables::shuffle_bytes(random, &case.table);
@@ -240,6 +244,7 @@ fn two_receivers(random: &mut Random, case: &Case, tally: &mut Tally) -> Result<
         return Ok(());
     }
     tally.receivers_steps += u64::from(first.0.done);
+    another_code(random, &shuffled, &case.steps, &first, &mut tally.sites)?;
     let mut rest = &case.steps[..];
     let mut done = 0;
     loop {

@@ -1,14 +1,16 @@
 //! Tables of full bags, with the fewest allowed steps and with the most.
 
 use crate::random::Random;
-use crate::tables::{Block, numbers};
+use crate::tables::{Block, numbers, place_sites};
 
 pub fn crowded(random: &mut Random) -> Vec<Block> {
-    if random.percent(20) {
+    let mut blocks = if random.percent(20) {
         free(random)
     } else {
         stuck(random)
-    }
+    };
+    place_sites(random, &mut blocks);
+    blocks
 }
 
 /// 64 stations that name no neighbour, with 32 different messages each: no step sends anything, so each one is allowed.
@@ -24,6 +26,7 @@ fn free(random: &mut Random) -> Vec<Block> {
             left: 0,
             right: 0,
             leaving: random.percent(50),
+            site: 0,
             bag: messages[..32].to_vec(),
         });
     }
@@ -49,6 +52,7 @@ fn stuck(random: &mut Random) -> Vec<Block> {
             left: if k == 0 { 0 } else { numbers[k - 1] },
             right: numbers.get(k + 1).copied().unwrap_or(0),
             leaving: random.percent(leaving),
+            site: 0,
             bag: Vec::new(),
         };
         let size = if random.percent(lacking) { 31 } else { 32 };

@@ -17,6 +17,7 @@ mod lining;
 mod random;
 mod reasons;
 mod roll_call;
+mod sites;
 mod steps;
 mod tables;
 mod tally;

@@ -13,6 +13,8 @@ pub struct Block {
     pub left: u32,
     pub right: u32,
     pub leaving: bool,
+    /// The site code (document 02, T-05), 0 for none.
+    pub site: u16,
     /// Kind and number of each message, in stored order.
     pub bag: Vec<(u16, u32)>,
 }
@@ -26,6 +28,7 @@ impl Block {
         put32(&mut bytes, 8, self.left);
         put32(&mut bytes, 12, self.right);
         put16(&mut bytes, 16, self.bag.len() as u16);
+        put16(&mut bytes, 18, self.site);
         for (k, &(kind, number)) in self.bag.iter().enumerate() {
             put16(&mut bytes, 20 + 8 * k, kind);
             put32(&mut bytes, 24 + 8 * k, number);
@@ -43,11 +46,11 @@ fn put32(bytes: &mut [u8], at: usize, value: u32) {
     bytes[at..at + 4].copy_from_slice(&value.to_le_bytes());
 }
 
-fn get16(bytes: &[u8], at: usize) -> u16 {
+pub fn get16(bytes: &[u8], at: usize) -> u16 {
     u16::from_le_bytes([bytes[at], bytes[at + 1]])
 }
 
-fn get32(bytes: &[u8], at: usize) -> u32 {
+pub fn get32(bytes: &[u8], at: usize) -> u32 {
     u32::from(get16(bytes, at)) | u32::from(get16(bytes, at + 2)) << 16
 }
 
@@ -58,6 +61,14 @@ fn seal(block: &mut [u8]) {
         sum = sum.wrapping_add(get16(block, 2 * k));
     }
     put16(block, 510, 65_535 - sum);
+}
+
+/// Another site code in a block. The check word changes by as much the other way, so a check that holds still does, and one that fails
+/// still fails.
+pub fn set_site(block: &mut [u8], site: u16) {
+    let sum = get16(block, 510).wrapping_add(get16(block, 18));
+    put16(block, 18, site);
+    put16(block, 510, sum.wrapping_sub(site));
 }
 
 pub fn bytes(blocks: &[Block]) -> Vec<u8> {
@@ -183,6 +194,7 @@ pub fn accepted(random: &mut Random, wish: Wish) -> Vec<Block> {
             left: 0,
             right: 0,
             leaving: random.percent(leaving),
+            site: 0,
             bag: Vec::new(),
         })
         .collect();
@@ -196,7 +208,37 @@ pub fn accepted(random: &mut Random, wish: Wish) -> Vec<Block> {
         }
         block.bag = bag(random, fill, block, &named);
     }
+    place_sites(random, &mut blocks);
     blocks
+}
+
+/// A site code that is accepted, often one at the end of a range or of a byte.
+pub fn site(random: &mut Random) -> u16 {
+    match random.weighted(&[20, 15, 8, 8, 9, 40]) {
+        0 => 0,
+        1 => random.from_to(1, 20) as u16,
+        2 => 255,
+        3 => 256,
+        4 => 9_999,
+        _ => random.from_to(1, 9_999) as u16,
+    }
+}
+
+/// Site codes for blocks by rising number: none, as in tables from before there were codes; any; one code at most stations; or codes that
+/// fall.
+pub fn place_sites(random: &mut Random, blocks: &mut [Block]) {
+    let manner = random.weighted(&[25, 45, 15, 15]);
+    let common = site(random);
+    let first = random.from_to(9_600, 9_999) as u16;
+    let gap = *random.pick(&[1, 100, 150]);
+    for (k, block) in blocks.iter_mut().enumerate() {
+        block.site = match manner {
+            0 => 0,
+            2 if random.percent(80) => common,
+            1 | 2 => site(random),
+            _ => first - gap * k as u16,
+        };
+    }
 }
 
 fn place_neighbours(
@@ -292,6 +334,18 @@ fn outside(random: &mut Random) -> u32 {
         2 => 0x0100_0000 + random.from_to(1, 999_999) as u32,
         3 => random.from_to(1_000_000, 1_048_575) as u32,
         _ => random.from_to(1_000_000, 0xFFFF_FFFF) as u32,
+    }
+}
+
+/// A site code above 9,999, often one that has a byte or the lower bits of a right one.
+fn outside_site(random: &mut Random) -> u16 {
+    match random.below(6) {
+        0 => 10_000,
+        1 => u16::MAX,
+        2 => random.from_to(10_001, 10_239) as u16,
+        3 => 256 * random.from_to(40, 255) as u16 + random.below(16) as u16,
+        4 => 0x8000 + random.from_to(0, 9_999) as u16,
+        _ => random.from_to(10_000, 65_535) as u16,
     }
 }
 
@@ -396,7 +450,7 @@ fn spoil_check(random: &mut Random, block: &mut [u8]) {
 fn break_field(random: &mut Random, block: &mut [u8]) {
     let count = usize::from(get16(block, 16)).min(32);
     let place = 20 + 8 * random.below(count.max(1));
-    match random.below(13) {
+    match random.below(14) {
         0 => put16(block, 0, other_word(random, 1..=1)),
         1 => {
             let flags = get16(block, 2) | 1 << random.from_to(1, 15);
@@ -424,7 +478,7 @@ fn break_field(random: &mut Random, block: &mut [u8]) {
                 count + 1
             } as u16,
         ),
-        7 => put16(block, 18, random.from_to(1, 65_535) as u16),
+        7 | 13 => put16(block, 18, outside_site(random)),
         8 => put16(block, place, other_word(random, 1..=3)),
         9 => put16(block, place + 2, random.from_to(1, 65_535) as u16),
         10 => {

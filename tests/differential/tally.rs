@@ -9,6 +9,7 @@ use crate::counts::Counts;
 use crate::leaving::Leaves;
 use crate::lining::Lines;
 use crate::roll_call::RollCalls;
+use crate::sites::Sites;
 use crate::steps::RULES;
 
 /// What is compared, each over every case that it fits.
@@ -25,10 +26,11 @@ pub enum Comparison {
     View,
     Lent,
     Joins,
+    Sites,
     Receivers,
 }
 
-pub const COMPARISONS: [&str; 12] = [
+pub const COMPARISONS: [&str; 13] = [
     "the run's number, counts, reason and holder",
     "every byte of the room",
     "the list of allowed steps, and every byte of its room",
@@ -40,6 +42,7 @@ pub const COMPARISONS: [&str; 12] = [
     "the view at every position and past the end",
     "lent memory, and what lies around it, as it was",
     "joined stations before and after",
+    "site codes: carried by every step, no part in anything else, none above 9,999",
     "two receivers of one table",
 ];
 
@@ -78,6 +81,7 @@ pub struct Tally {
     pub view: Views,
     pub lists: Lists,
     pub calls: RollCalls,
+    pub sites: Sites,
     /// The refused steps 11 to 15 by action: timeout, deliver, exit.
     pub stopped: [[u64; 3]; 16],
     pub steps_done: u64,
@@ -191,6 +195,7 @@ impl Tally {
         missing.extend(self.leaves.missing());
         missing.extend(self.lists.missing());
         missing.extend(self.calls.missing());
+        missing.extend(self.sites.missing());
         missing
     }
 
@@ -230,6 +235,7 @@ impl Tally {
         self.lists.print();
         self.lists.print_steps();
         self.calls.print();
+        self.sites.print();
         println!("steps done, by rule, of those chosen against the model:");
         for (name, count) in RULES.iter().zip(&self.rules) {
             println!("{count:>10}  {name}");

@@ -1,7 +1,7 @@
 //! Tables in line in which introductions wait, and tables that are not in line for one cause alone.
 
 use crate::random::Random;
-use crate::tables::{Block, numbers};
+use crate::tables::{Block, numbers, place_sites};
 
 pub fn tidy(random: &mut Random) -> Vec<Block> {
     let count = match random.below(4) {
@@ -20,6 +20,7 @@ pub fn tidy(random: &mut Random) -> Vec<Block> {
             _ => {}
         }
     }
+    place_sites(random, &mut blocks);
     blocks
 }
 
@@ -35,6 +36,7 @@ fn in_line(random: &mut Random, count: usize) -> Vec<Block> {
             left: if k == 0 { 0 } else { numbers[k - 1] },
             right: numbers.get(k + 1).copied().unwrap_or(0),
             leaving: false,
+            site: 0,
             bag: (0..size).map(|_| (1, *random.pick(&numbers))).collect(),
         });
     }

@@ -3,8 +3,8 @@
 use std::collections::BTreeSet;
 
 use crate::{
-    Action, BLOCK, Bag, LARGEST_NUMBER, MOST_MESSAGES, MOST_STATIONS, Message, STEP, Station, Step,
-    Table,
+    Action, BLOCK, Bag, LARGEST_NUMBER, LARGEST_SITE, MOST_MESSAGES, MOST_STATIONS, Message, STEP,
+    Station, Step, Table,
 };
 
 fn word(bytes: &[u8], at: usize) -> u16 {
@@ -43,6 +43,11 @@ fn kind_and_number(message: Message) -> (u16, u32) {
 
 fn neighbour(number: u32) -> Option<u32> {
     if number == 0 { None } else { Some(number) }
+}
+
+/// "A site code, 0 to 9,999, with 0 for none. It stands in bytes 18-19" (document 02, T-05).
+fn site(code: u16) -> Option<u16> {
+    if code == 0 { None } else { Some(code) }
 }
 
 /// "The 256 words of 16 bits, added with wrap at 65,536, give 65,535."
@@ -84,7 +89,7 @@ fn station(block: &[u8]) -> Option<(u32, Station)> {
         && is_station_number(number)
         && left.is_none_or(is_station_number)
         && right.is_none_or(is_station_number)
-        && all_zero(&block[18..20])
+        && word(block, 18) <= LARGEST_SITE
         && all_zero(&block[276..510]);
     if !inside {
         return None;
@@ -93,6 +98,7 @@ fn station(block: &[u8]) -> Option<(u32, Station)> {
         left,
         right,
         leaving: word(block, 2) == 1,
+        site: site(word(block, 18)),
         bag: bag(block)?,
     };
     Some((number, station))
@@ -159,7 +165,7 @@ fn write_block(number: u32, station: &Station) -> Vec<u8> {
     block.extend(station.left.unwrap_or(0).to_le_bytes());
     block.extend(station.right.unwrap_or(0).to_le_bytes());
     block.extend((messages.len() as u16).to_le_bytes());
-    block.extend([0, 0]);
+    block.extend(station.site.unwrap_or(0).to_le_bytes());
     for message in messages {
         let (kind, number) = kind_and_number(message);
         block.extend(kind.to_le_bytes());

@@ -19,6 +19,8 @@ mod roll_call;
 mod roll_calls;
 mod rules;
 #[cfg(test)]
+mod sites;
+#[cfg(test)]
 mod situations;
 
 use std::collections::BTreeMap;
@@ -37,6 +39,9 @@ pub const MOST_STATIONS: usize = 64;
 pub const MOST_MESSAGES: usize = 32;
 pub const MOST_STEPS: usize = 4096;
 
+/// "A site code, 0 to 9,999, with 0 for none" (document 02, T-05).
+pub const LARGEST_SITE: u16 = 9_999;
+
 /// "What the engine holds": the three messages. Their order here, by kind and then by number, is the order of writing.
 #[derive(Clone, Copy, Debug, PartialEq, Eq, PartialOrd, Ord)]
 pub enum Message {
@@ -53,6 +58,8 @@ pub struct Station {
     pub left: Option<u32>,
     pub right: Option<u32>,
     pub leaving: bool,
+    /// The site code, where it has one (document 02, T-05). No rule looks at it, and "every step carries it unchanged".
+    pub site: Option<u16>,
     pub bag: Bag,
 }
 

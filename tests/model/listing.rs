@@ -28,7 +28,8 @@ fn ending(reason: Option<Reason>) -> String {
     }
 }
 
-/// The first line, and for answers 0 and 10 to 15 a line per station.
+/// The first line, and for answers 0 and 10 to 15 a line per station, which "gains its code at the end as one word, `@` with the number, or
+/// nothing for 0" (document 02, T-05).
 pub fn listing(ran: &Ran) -> String {
     let mut text = format!(
         "answer {} done {} stations {}{}\n",
@@ -53,6 +54,7 @@ pub fn listing(ran: &Ran) -> String {
             };
             words.extend(std::iter::repeat_n(word, copies));
         }
+        words.extend(station.site.map(|code| format!("@{code}")));
         text += &words.join(" ");
         text += "\n";
     }

@@ -17,6 +17,7 @@ pub fn table(lines: &[(u32, u32, u32, bool, &[Message])]) -> Table {
             left: side(left),
             right: side(right),
             leaving,
+            site: None,
             bag,
         };
         table.insert(number, station);

@@ -7,7 +7,7 @@ use native.Mathlib.Omega.{arith}
 use borrow.Author.Tests.{eqb-true, leb-true}
 use Rattle.octets.specs.Bytes.{word, quad, part, allZero}
 use Rattle.octets.proofs.Both.{and-left, and-right}
-use Rattle.line.specs.Marks.{flagsHold, reservedHolds}
+use Rattle.line.specs.Marks.{flagsHold, siteHolds}
 use Rattle.line.specs.Accepted.{inRange, hasSides}
 use Rattle.block.specs.Layout.{checkHolds, placesHold, headerHolds, restHolds, fieldsHold, nodeOf, firstFault, faultOf}
 
@@ -43,7 +43,7 @@ pub record FieldFacts (b : List ℕ) : Type 0 where
   pub flag : flagsHold (word b 2) ≡ true
   pub number : inRange (quad b 4) ≡ true
   pub count : word b 16 ≤ 32
-  pub reserved : reservedHolds (word b 18) ≡ true
+  pub site : siteHolds (word b 18) ≡ true
   pub places : placesHold b (word b 16) ≡ true
   pub unused : allZero (part b (20 + 8 * word b 16) 276) ≡ true
   pub filler : allZero (part b 276 510) ≡ true
@@ -56,7 +56,7 @@ field-facts b h =
       flag = search (and-left, and-right) depth 10;
       number = search (and-left, and-right) depth 10;
       count = leb-true (word b 16) 32 (search (and-left, and-right) depth 10);
-      reserved = search (and-left, and-right) depth 10;
+      site = search (and-left, and-right) depth 10;
       places = search (and-left, and-right) depth 10;
       unused = search (and-left, and-right) depth 10;
       filler = search (and-left, and-right) depth 10;

@@ -7,7 +7,7 @@ use lib.ListN.{replicate}
 use Rattle.line.specs.declared.Content.the-variants.{RemoveLeft}
 use Rattle.line.specs.declared.Message.{Message}
 use Rattle.line.specs.declared.Station as declared
-use Rattle.line.specs.Marks.{flagsHold, reservedHolds, marksFrom}
+use Rattle.line.specs.Marks.{flagsHold, siteHolds, marksFrom}
 use Rattle.line.specs.Node.{Node}
 use Rattle.line.specs.Accepted.{inRange, hasSides}
 use Rattle.fields.specs.declared.Place.{Place}
@@ -47,7 +47,7 @@ headerHolds b =
     && neighbourHolds (quad b 8)
     && neighbourHolds (quad b 12)
     && countHolds (word b 16)
-    && reservedHolds (word b 18)
+    && siteHolds (word b 18)
 
 -- the counted places are good; "Places from the count on are all zero", and so are bytes 276-509
 unfoldable pub restHolds : List ℕ → Bool

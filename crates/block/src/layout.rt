@@ -5,7 +5,7 @@ use fields::flags_hold;
 use fields::in_range;
 use fields::layout_holds;
 use fields::neighbour_holds;
-use fields::reserved_holds;
+use fields::site_holds;
 use octets::quad_at;
 use octets::word_at;
 use octets::zero_between;
@@ -26,7 +26,7 @@ fn header_holds(b: &[u8]) -> bool
         & neighbour_holds(quad_at(b, 8))
         & neighbour_holds(quad_at(b, 12))
         & count_holds(word_at(b, 16))
-        & reserved_holds(word_at(b, 18))
+        & site_holds(word_at(b, 18))
 }
 
 // Bytes 20 to 509: the counted places are good, and every byte after them is 0.

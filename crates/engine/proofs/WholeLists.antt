@@ -103,7 +103,7 @@ joined-kept t steps room h a b =
     (λ m n. let k = line.joined-kept (lineOf t) (stepsOf steps) (s .1) a b m n in (λ j. k .0 (r .0 j), λ j. r .1 (k .1 j)))
 
 -- a table has 512 bytes for each station of its line
-table-length : (t : List ℕ) → faultOf t ≡ 0 → length t ≡ 512 * length (lineOf t)
+pub table-length : (t : List ℕ) → faultOf t ≡ 0 → length t ≡ 512 * length (lineOf t)
 unfolding lineOf inWrittenOrder
 table-length t h =
     omega
@@ -114,7 +114,7 @@ same-length : (t u : List ℕ) → faultOf t ≡ 0 → faultOf u ≡ 0 → lineO
 same-length t u h k e = omega (arith, table-length t h, table-length u k, ap length e)
 
 -- so what is refused before the first step is the same
-same-fault : (t u steps room room′ : List ℕ) → faultOf t ≡ 0 → faultOf u ≡ 0 → length t ≡ length u → length room ≡ length room′
+pub same-fault : (t u steps room room′ : List ℕ) → faultOf t ≡ 0 → faultOf u ≡ 0 → length t ≡ length u → length room ≡ length room′
     → faultBefore t steps room ≡ faultBefore u steps room′
 unfolding faultBefore roomHolds
 same-fault t u steps room room′ h k e l = rw (h, k, e, l) refl

@@ -21,7 +21,9 @@ pub record SameOutcome (x y : Outcome) : Type 0 where
   pub written : tableIn x ≡ tableIn y
 
 -- 1. Two receivers agree: accepted tables that are alike, whatever the order of their blocks and messages, give for every step list and
--- equal room lengths the same answer, with the reason that it carries, and the same counts and written bytes.
+-- equal room lengths the same answer, with the reason that it carries, and the same counts and written bytes. "The agreement of the two
+-- receivers now also takes equal site codes as a premise and shares them" (document 02, T-05): `Alike` asks for the same marks, the site code
+-- among them, and the bytes that are equal contain it.
 abbrev pub ReceiversAgree : Type 0
 ReceiversAgree =
     (t u steps room room′ : List ℕ) → faultOf t ≡ 0 → faultOf u ≡ 0 → Alike (nodes t) (nodes u) → length room ≡ length room′

@@ -5,7 +5,7 @@ use line::Message;
 use line::Neighbour;
 ghost use mathlib.Core.Path.{_≡_};
 ghost use Rattle.line.specs.Accepted.{inRange};
-ghost use Rattle.line.specs.Marks.{flagsHold, reservedHolds};
+ghost use Rattle.line.specs.Marks.{flagsHold, siteHolds};
 ghost use Rattle.fields.specs.Fields.{layoutHolds, neighbourHolds, countHolds, placeOf, isGood, messageOf, neighbourOf};
 
 // What a message place holds.
@@ -49,11 +49,11 @@ pub fn count_holds(n: u16) -> bool
     n <= 32
 }
 
-// bytes 18-19: "0"
-pub fn reserved_holds(n: u16) -> bool
-    ensures { λ r. ⌜ r ≡ reservedHolds n ⌝ }
+// bytes 18-19: "a site code, 0 to 9,999, with 0 for none" (document 02, T-05)
+pub fn site_holds(code: u16) -> bool
+    ensures { λ r. ⌜ r ≡ siteHolds code ⌝ }
 {
-    n == 0
+    code <= 9999
 }
 
 // "0 for none"

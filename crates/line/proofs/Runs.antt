@@ -16,10 +16,10 @@ use Rattle.line.specs.Answer.{Answer, refused, done}
 use Rattle.line.specs.Node.{Line}
 use Rattle.line.specs.Run.{try, Run, run, Leads, EndsAt, IsRun}
 use Rattle.line.specs.Accepted.{Accepted}
-use Rattle.line.specs.Claims.{RunKeepsAccepted, RunKeepsWritten, PresentBefore, JoinedKept, RunPinned}
+use Rattle.line.specs.Claims.{RunKeepsAccepted, RunKeepsWritten, PresentBefore, JoinedKept, MarksKept, RunPinned}
 use Rattle.line.proofs.Answers.{refused-done}
 use Rattle.line.proofs.Chains.{forward, carry}
-use Rattle.line.proofs.Whole.{Result, step-result}
+use Rattle.line.proofs.Whole.{Result, came-same, came-then, came-present, step-result}
 
 -- A machine answers a reading in a state, whatever its states are: lines, or arrays that hold one. Its course over a list of readings is
 -- what `run` is of the machine `try`.
@@ -164,15 +164,15 @@ run-simulates R alike l a b h =
 
 -- what a step or a run does to an accepted line
 unchanged : {line : Line} → Accepted line → Result line line
-unchanged ok = record { accepted = ok; written = λ w. w; remain = λ x m. m; backed = λ x y h. forward h; stays = λ a b m n j. j }
+unchanged ok = record { accepted = ok; written = λ w. w; came = came-same; backed = λ x y h. forward h; stays = λ a b m n j. j }
 
 then : {line mid after : Line} → Result line mid → Result mid after → Result line after
 then r t = record {
   accepted = t .accepted;
   written = λ w. t .written (r .written w);
-  remain = λ x m. r .remain x (t .remain x m);
+  came = came-then (r .came) (t .came);
   backed = λ x y h. carry (r .backed) (t .backed x y h);
-  stays = λ a b m n j. t .stays a b m n (r .stays a b (t .remain a m) (t .remain b n) j);
+  stays = λ a b m n j. t .stays a b m n (r .stays a b (came-present (t .came) a m) (came-present (t .came) b n) j);
 }
 
 try-result : (line : Line) (x : Reading) {after : Line} → Accepted line → try line x ≡ done after → Result line after
@@ -191,7 +191,10 @@ pub run-keeps-written : RunKeepsWritten
 run-keeps-written line l ok w = run-result l line ok .written w
 
 pub present-before : PresentBefore
-present-before line l ok = run-result l line ok .remain
+present-before line l ok = came-present (run-result l line ok .came)
+
+pub marks-kept : MarksKept
+marks-kept line l ok = run-result l line ok .came
 
 pub joined-kept : JoinedKept
 joined-kept line l ok a b m n =

@@ -18,7 +18,6 @@ use Rattle.line.specs.declared.Step as declared
 use Rattle.lists.specs.Lists.{all, Ordered}
 use Rattle.line.specs.Answer.{done, _>>=_}
 use Rattle.line.specs.Message.{introduction, precedes, put, capacity}
-use Rattle.line.specs.Marks.{marksHold}
 use Rattle.line.specs.Node.{Node, Line, number, numbers, Present, Written}
 use Rattle.lists.specs.Numbers.{Distinct}
 use Rattle.line.specs.Links.{Linked, by-neighbour, by-introduction, Link, link, same-station, along, against, Joined}
@@ -35,10 +34,6 @@ use Rattle.line.proofs.LeaveTest.{leave-tested}
 use Rattle.line.proofs.Changes.{node-of, unique, found, changed-mem, keeps-other, takes-it, changed-numbers, changed-all, receive-number, without-mem, mem-without, without-present, present-without, without-pairwise, without-length, room-true}
 use Rattle.line.proofs.Sends.{Clear, clear-act}
 use Rattle.line.proofs.Local.{Sent, Edge, own, sent, Fair, SelfOr, Remains, Gone, LinksKept, act-links, Keeps, KeepsIfThere, act-keeps}
-
--- its marks are inside the layout
-abbrev Marked : Node → Type 0
-Marked s = marksHold (s .station .marks) ≡ true
 
 -- its bag is within its bound; its bag is in written order
 abbrev Small : Node → Type 0
@@ -60,6 +55,32 @@ joined-present h same-station m = m
 joined-present h (along r j) m = joined-present h j (target h r)
 joined-present h (against r j) m = joined-present h j (source r)
 
+-- each station that is there afterwards was there before, with its marks
+abbrev pub Came : Line → Line → Type 0
+Came line after = (t : Node) → Member t after → (s : Node) × Member s line × (number s ≡ number t) × (s .station .marks ≡ t .station .marks)
+
+pub came-same : {line : Line} → Came line line
+came-same t m = (t, m, refl, refl)
+
+pub came-then : {a b c : Line} → Came a b → Came b c → Came a c
+came-then f g t m =
+    let w = g t m in
+    let v = f (w .0) (w .1) in
+    (v .0, v .1, v .2 ∙ w .2, v .3 ∙ w .3)
+
+pub came-present : {line after : Line} → Came line after → (x : ℕ) → Present after x → Present line x
+came-present {line} {after} f x m =
+    let v = node-of after m in
+    let w = f (v .0) (v .1) in
+    Memᴰ·cast (v .2 ∙ sym (w .2)) (mem-map number (w .1))
+
+changed-came : (n : ℕ) (f : Node → Node) (line : Line)
+    → ((t : Node) → Member t line → number t ≡ n → (number t ≡ number (f t)) × (t .station .marks ≡ (f t) .station .marks)) → Came line (map (change n f) line)
+changed-came n f line h t m =
+    ⊎-elim (λ w. (t, w .0, refl, refl))
+    (λ w. let v = h (w .0) (w .1) (w .2) in (w .0, w .1, v .0 ∙ ap number (sym (w .3)), v .1 ∙ ap (λ (z : Node). z .station .marks) (sym (w .3))))
+    (changed-mem n f line m)
+
 -- A message is put into a bag.
 receive-links : (m : Message) (t : Node) {y : ℕ} → Linked (withMessage m t) y → Linked t y ⊎ (introduction y ≡ m)
 unfolding withMessage
@@ -79,9 +100,9 @@ receive-sided : (m : Message) (t : Node) → Sided t → Sided (withMessage m t)
 unfolding withMessage
 receive-sided m t h d q e = h d q e
 
-receive-marked : (m : Message) (t : Node) → Marked t → Marked (withMessage m t)
+receive-marks : (m : Message) (t : Node) → (withMessage m t) .station .marks ≡ t .station .marks
 unfolding withMessage
-receive-marked m t h = h
+receive-marks m t = refl
 
 receive-small : (m : Message) (t : Node) → length (put m (t .bag)) ≤ capacity → Small (withMessage m t)
 unfolding withMessage
@@ -139,7 +160,7 @@ pub record Posted (line : Line) (l : List Send) (after : Line) : Type 0 where
   pub keeps : (x y : ℕ) → Link line x y → Link after x y
   pub arrives : (x y : ℕ) → Sent l x y → Present line x → Link after x y
   pub sided : ((s : Node) → Member s line → Sided s) → (s : Node) → Member s after → Sided s
-  pub marked : ((s : Node) → Member s line → Marked s) → (s : Node) → Member s after → Marked s
+  pub came : Came line after
   pub small : ((s : Node) → Member s line → Small s) → (s : Node) → Member s after → Small s
   pub order : ((s : Node) → Member s line → InOrder s) → (s : Node) → Member s after → InOrder s
 
@@ -151,7 +172,7 @@ sent-all [] line a r = record {
   keeps = λ x y h. h;
   arrives = λ x y k. absurd (List·Memᴰ·not-nil k);
   sided = λ h. h;
-  marked = λ h. h;
+  came = came-same;
   small = λ h. h;
   order = λ h. h;
 }
@@ -172,7 +193,7 @@ sent-all (m ∷ l) line a r =
           (λ z. p .keeps x y (posted-arrives (m .to) (m .message) line (ap (λ (t : Send). t .to) z) (ap (λ (t : Send). t .message) z) h))
           (λ n. p .arrives x y n (rw posted-numbers h)) (List·Memᴰ·cases-cons k);
       sided = λ h. p .sided (changed-all (m .to) (withMessage (m .message)) Sided line h (λ t k q. receive-sided (m .message) t (h t k)));
-      marked = λ h. p .marked (changed-all (m .to) (withMessage (m .message)) Marked line h (λ t k q. receive-marked (m .message) t (h t k)));
+      came = came-then (changed-came (m .to) (withMessage (m .message)) line (λ t k q. (sym (receive-number (m .message) t), sym (receive-marks (m .message) t)))) (p .came);
       small = λ h. p .small (changed-all (m .to) (withMessage (m .message)) Small line h (λ t k q. receive-small (m .message) t (r m (here refl) t k q)));
       order = λ h. p .order (changed-all (m .to) (withMessage (m .message)) InOrder line h (λ t k q. receive-order (m .message) t (h t k)));
     }
@@ -184,18 +205,17 @@ numbers-length a b e = sym (map-length number a) ∙ ap length e ∙ map-length 
 pub record Result (line after : Line) : Type 0 where
   pub accepted : Accepted after
   pub written : Written line → Written after
-  pub remain : (x : ℕ) → Present after x → Present line x
+  pub came : Came line after
   pub backed : (x y : ℕ) → Link after x y → Joined line x y
   pub stays : (a b : ℕ) → Present after a → Present after b → Joined line a b → Joined after a b
 
 -- a line is accepted again if its nodes are as they must be and it names nobody but present ones
-accepted-again : {line after : Line} → Accepted line → length after ≤ length line → Distinct (numbers after) → ((x : ℕ) → Present after x → Present line x)
-    → ((s : Node) → Member s after → Sided s) → ((s : Node) → Member s after → Marked s) → ((s : Node) → Member s after → Small s) → ((x y : ℕ) → Link after x y → Present after y)
-    → Accepted after
-accepted-again {line} {after} ok few apart remain sided marked small known = record {
+accepted-again : {line after : Line} → Accepted line → length after ≤ length line → Distinct (numbers after) → Came line after
+    → ((s : Node) → Member s after → Sided s) → ((s : Node) → Member s after → Small s) → ((x y : ℕ) → Link after x y → Present after y) → Accepted after
+accepted-again {line} {after} ok few apart came sided small known = record {
   few = omega (arith, ok .few, few);
-  ranged = λ s m. let w = node-of line (remain (number s) (mem-map number m)) in rw (w .2) (ok .ranged (w .0) (w .1));
-  marked = marked;
+  ranged = λ s m. let w = came s m in rw (← w .2) (ok .ranged (w .0) (w .1));
+  marked = λ s m. let w = came s m in rw (← w .3) (ok .marked (w .0) (w .1));
   small = small;
   sided = sided;
   distinct = apart;
@@ -242,18 +262,23 @@ module _ (line : Line) (ok : Accepted line) (s : Node) (there-is : Member s line
         (λ h. append (equal (sym e ∙ h)) (carry (λ a b r. forward (stay-edge a b r)) (k .joined y (is-here m h q))))
         (λ h. forward (p .keeps x y (link t (keeps-other (number s) (λ (t : Node). u) m h) e q)))
 
+    stay-came : Came line after
+    stay-came =
+        came-then
+        (changed-came (number s) (λ (t : Node). u) line
+        (λ t m e. (e ∙ sym (k .named), ap (λ (z : Node). z .station .marks) (unique line (ok .distinct) m there-is e) ∙ sym (same .marks)))) (p .came)
+
     stay-result : Result line after
     stay-result = record {
-      accepted = accepted-again ok (omega (arith, numbers-length after line stay-numbers)) (rw stay-numbers (ok .distinct)) (λ x m. rw stay-numbers at m)
+      accepted = accepted-again ok (omega (arith, numbers-length after line stay-numbers)) (rw stay-numbers (ok .distinct)) stay-came
           (p .sided (changed-all (number s) (λ (t : Node). u) Sided line (ok .sided) (λ t m e. k .sided)))
-          (p .marked (changed-all (number s) (λ (t : Node). u) Marked line (ok .marked) (λ t m e. rw (same .marks) (ok .marked s there-is))))
           (p .small (changed-all (number s) (λ (t : Node). u) Small line (ok .small) (λ t m e. k .small)))
           (λ x y h. rw stay-numbers (joined-present ok (stay-backed x y h) (rw stay-numbers at (source h))));
       written = λ w. record {
         rising = rw stay-numbers (w .rising);
         bags = p .order (changed-all (number s) (λ (t : Node). u) InOrder line (w .bags) (λ t m e. same .order (w .bags s there-is)));
       };
-      remain = λ x m. rw stay-numbers at m;
+      came = stay-came;
       backed = stay-backed;
       stays = λ a b m n j. carry stay-joined j;
     }
@@ -295,19 +320,21 @@ module _ (line : Line) (ok : Accepted line) (s : Node) (there-is : Member s line
         (λ h. rw (for-other (λ z. h (e ∙ z)), for-other (λ z. k .unlinked t m h (subst (λ (i : ℕ). Linked t i) z q)))
         (forward (p .keeps x y (link t (mem-without (number s) line m h) e q))))
 
+    leave-came : Came line after
+    leave-came = came-then (λ t m. (t, without-mem (number s) line m .0, refl, refl)) (p .came)
+
     leave-result : Result line after
     leave-result = record {
       accepted = accepted-again ok (omega (arith, numbers-length after (without (number s) line) (p .alike), without-length (number s) line))
-          (rw (p .alike) (without-pairwise (number s) (λ (n k : ℕ). n ≢ k) line (ok .distinct))) (λ x m. remains m .0)
+          (rw (p .alike) (without-pairwise (number s) (λ (n k : ℕ). n ≢ k) line (ok .distinct))) leave-came
           (p .sided (λ t m. ok .sided t (without-mem (number s) line m .0)))
-          (p .marked (λ t m. ok .marked t (without-mem (number s) line m .0)))
           (p .small (λ t m. ok .small t (without-mem (number s) line m .0)))
           (λ x y h. rw (p .alike) (present-without (number s) line (joined-present ok (leave-backed x y h .0) (remains (source h) .0)) (leave-backed x y h .1)));
       written = λ w. record {
         rising = rw (p .alike) (without-pairwise (number s) (λ (n k : ℕ). n < k) line (w .rising));
         bags = p .order (λ t m. w .bags t (without-mem (number s) line m .0));
       };
-      remain = λ x m. remains m .0;
+      came = leave-came;
       backed = λ x y h. leave-backed x y h .0;
       stays = λ a b m n j. rw (for-other (remains m .1), for-other (remains n .1)) at (transport standsFor leave-joined j);
     }

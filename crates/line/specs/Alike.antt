@@ -8,7 +8,8 @@ use Rattle.line.specs.Message.{copies}
 use Rattle.line.specs.Node.{Node, Line, number, Present}
 
 -- "Tables are alike when the same station numbers have blocks, each with the same left, right and leaving mark and as many
--- copies of each message." The leaving mark is all that `marks` holds.
+-- copies of each message." "The agreement of the two receivers now also takes equal site codes as a premise and shares them" (document 02,
+-- T-05): `marks` is the leaving mark and the site code.
 pub record AlikeNodes (s t : Node) : Type 0 where
   pub left : s .station .left ≡ t .station .left
   pub right : s .station .right ≡ t .station .right

@@ -67,6 +67,13 @@ JoinedKept =
     (line : Line) (l : List Reading) → Accepted line
     → (a b : ℕ) → Present ((run line l) .line) a → Present ((run line l) .line) b → Joined line a b ↔ Joined ((run line l) .line) a b
 
+-- "Every step carries it unchanged" (document 02, T-05), said of the site code and as true of the leaving mark: a station present at the end
+-- of a run was there at the start, with the marks that it has at the end.
+abbrev pub MarksKept : Type 0
+MarksKept =
+    (line : Line) (l : List Reading) → Accepted line
+    → (t : Node) → Member t ((run line l) .line) → (s : Node) × Member s line × (number s ≡ number t) × (s .station .marks ≡ t .station .marks)
+
 -- 3. Accepted lines that are alike, whatever their stored order, have one written order; so everything after reading is equal.
 abbrev pub AlikeAgree : Type 0
 AlikeAgree = (a b : Line) → Accepted a → Accepted b → Alike a b → inWrittenOrder a ≡ inWrittenOrder b

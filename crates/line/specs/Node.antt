@@ -13,13 +13,13 @@ use Rattle.line.specs.declared.Side.{Side}
 use Rattle.line.specs.declared.Side.the-variants.{Left, Right}
 use Rattle.lists.specs.Lists.{Ordered, sort}
 use Rattle.line.specs.Message.{precedes}
-use Rattle.line.specs.Marks.{plain}
+use Rattle.line.specs.Marks.{plain, withSite}
 
 pub record Node : Type 0 where
   pub station : declared.Station
   pub bag : List Message
 
--- no station: number 0, no neighbours, staying, an empty bag; what arrays hold where no station stands
+-- no station: number 0, no neighbours, staying, no site code, an empty bag; what arrays hold where no station stands
 abbrev pub nobody : Node
 nobody = record { station = record { number = 0; left = None; right = None; marks = plain false }; bag = [] }
 
@@ -32,6 +32,17 @@ number s = s .station .number
 
 abbrev pub leaving : Node → Bool
 leaving s = s .station .marks .leaving
+
+-- "a site code, 0 to 9,999, with 0 for none" (document 02, T-05)
+abbrev pub site : Node → ℕ
+site s = s .station .marks .site
+
+-- the same station with another site code, without its bag and with it
+abbrev pub stationAt : ℕ → declared.Station → declared.Station
+stationAt c p = record { number = p .number; left = p .left; right = p .right; marks = withSite c (p .marks) }
+
+unfoldable pub atSite : ℕ → Node → Node
+atSite c s = record { station = stationAt c (s .station); bag = s .bag }
 
 abbrev pub numbers : Line → List ℕ
 numbers line = map number line

@@ -2,7 +2,7 @@
 
 ghost use mathlib.Core.Path.{_≡_};
 ghost use Rattle.line.specs.Answer.{reasonNumber, reasonHolder, carriedNumber, carriedHolder, refusalNumber, refusalReason, endingNumber, answerNumber, answerReason};
-ghost use Rattle.line.specs.Marks.{flags, reserved, marksFrom};
+ghost use Rattle.line.specs.Marks.{flags, marksFrom};
 ghost use Rattle.line.specs.Node as node;
 
 // "A neighbour is either none or a station number."
@@ -22,10 +22,12 @@ pub struct Message {
     pub content: Content,
 }
 
-// What a station carries besides its number, its neighbours and its bag. No step changes it, so it is handed on whole; a further mark is a
-// field here, and stands in one of the two words of `impl Marks`.
+// What a station carries besides its number, its neighbours and its bag: whether it is leaving, and "a site code, 0 to 9,999, with 0 for none"
+// (document 02, T-05). No step changes it, so it is handed on whole; a further mark is a field here, and stands in one of the two words of
+// `impl Marks`.
 pub struct Marks {
     pub leaving: bool,
+    pub site: u16,
 }
 
 // A station without its bag.
@@ -220,6 +222,7 @@ impl Marks {
     {
         Marks {
             leaving: first == 1,
+            site: second,
         }
     }
 
@@ -228,13 +231,6 @@ impl Marks {
         ensures { λ r. ⌜ r ≡ flags self ⌝ }
     {
         if self.leaving { 1 } else { 0 }
-    }
-
-    // bytes 18-19: "0"
-    pub fn reserved(self) -> u16
-        ensures { λ r. ⌜ r ≡ reserved self ⌝ }
-    {
-        0
     }
 }
 

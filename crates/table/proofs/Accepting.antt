@@ -30,7 +30,7 @@ number-ranged b h = field-facts b h .number
 
 marks-held : (b : List ℕ) → fieldsHold b ≡ true → marksHold ((nodeOf b) .station .marks) ≡ true
 unfolding nodeOf stationOf
-marks-held b h = words-hold (word b 2) (word b 18) (field-facts b h .flag) (field-facts b h .reserved)
+marks-held b h = words-hold (word b 2) (word b 18) (field-facts b h .flag) (field-facts b h .site)
 
 bag-small : (b : List ℕ) → fieldsHold b ≡ true → length ((nodeOf b) .bag) ≤ capacity
 unfolding nodeOf

@@ -27,6 +27,7 @@ use Rattle.writing.proofs.ReadBack.{written-length, written-reads-back}
 use Rattle.writing.proofs.Rewritten.{rewritten-same as same-block}
 use Rattle.block.specs.Layout as block
 use Rattle.table.specs.Blocks.{blocks, nodes, lineOf, bytesOf}
+use Rattle.table.specs.Fault.{faultOf}
 use Rattle.table.specs.Claims.{WrittenAccepted, RewrittenSame}
 use Rattle.table.proofs.BlockLaws.{blocks-none, blocks-cons}
 use Rattle.table.proofs.FaultLaws.{no-fault-of, Passes, accepted-passes, passes-accepted, passes-clean}
@@ -89,13 +90,18 @@ module _ (line : Line) (a : Accepted line) where
         names = rw read-back (true-all (namesPresent line) line (λ s m. names-present line s .1 (a .known s m)));
       }
 
+  -- the table of a line in any order
+  pub stored-blocks : blocks (bytesOf line) ≡ map encode line
+  stored-blocks = written-blocks line full
+
+  pub stored-accepted : (faultOf (bytesOf line) ≡ 0) × (nodes (bytesOf line) ≡ line)
+  stored-accepted = (passes-accepted (bytesOf line) written-passes, read-back)
+
 pub written-accepted : WrittenAccepted
 unfolding lineOf
-written-accepted line a w = (
-  passes-accepted (bytesOf line) (written-passes line a),
-  read-back line a,
-  rw (read-back line a) (written-order-stays line w),
-)
+written-accepted line a w =
+    let stored = stored-accepted line a in
+    (stored .0, stored .1, rw (stored .1) (written-order-stays line w))
 
 -- Rewriting, block by block.
 bytes-take : (t : List ℕ) (n : ℕ) → AreBytes t → AreBytes (take n t)
@@ -118,9 +124,13 @@ rewritten (suc n) t e h f =
     let others = rewritten n rest (omega (arith, length-drop 512 t)) (λ i. rw (getD-drop 512 t i 0) (h (512 + i))) (λ c m. f c (rw parts (there m))) in
     rw (parts, first, others, take-append-drop 512 t)
 
-pub rewritten-same : RewrittenSame
-unfolding lineOf
-rewritten-same t h e w =
+-- an accepted table is that of its stations as they are stored
+pub stored-same : (t : List ℕ) → AreBytes t → faultOf t ≡ 0 → bytesOf (nodes t) ≡ t
+stored-same t h e =
     let p = accepted-passes t e in
     let whole = eqb-true (length t % 512) 0 (p .whole) in
-    rw (written-order-stays (nodes t) w) (rewritten (length t / 512) t (omega arith) h (λ b m. no-fault-of (blocks t) (passes-clean t p) m))
+    rewritten (length t / 512) t (omega arith) h (λ b m. no-fault-of (blocks t) (passes-clean t p) m)
+
+pub rewritten-same : RewrittenSame
+unfolding lineOf
+rewritten-same t h e w = rw (written-order-stays (nodes t) w) (stored-same t h e)

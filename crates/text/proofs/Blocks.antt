@@ -43,16 +43,16 @@ module _ (t : List ℕ) (k : ℕ) (h : k < length t / 512) where
 -- the lines of the first k blocks are in
 pub record LinesTo (l : List ℕ) (at : ℕ) (t : List ℕ) (k end : ℕ) (m : List ℕ) : Type 0 where
   pub within : k ≤ length t / 512
-  pub near : end ≤ at + 423 * k
+  pub near : end ≤ at + 435 * k
   pub size : length m ≡ length l
   pub wrote : Wrote l at (stationsText (take k (nodes t))) end m
 
-pub lines-none : {l t : List ℕ} {at : ℕ} → at + 423 * (length t / 512) ≤ length l → LinesTo l at t 0 at l
+pub lines-none : {l t : List ℕ} {at : ℕ} → at + 435 * (length t / 512) ≤ length l → LinesTo l at t 0 at l
 unfolding stationsText
 lines-none h = record { within = omega arith; near = omega arith; size = refl; wrote = wrote-none (omega arith) }
 
 module _ {l t m : List ℕ} {at k end : ℕ} (so-far : LinesTo l at t k end m) where
-  pub lines-next : k < length t / 512 → {o : List ℕ} {r : ℕ} → Wrote m end (stationText (nodeOf (lentAt t k))) r o → r ≤ end + 423 → LinesTo l at t (k + 1) r o
+  pub lines-next : k < length t / 512 → {o : List ℕ} {r : ℕ} → Wrote m end (stationText (nodeOf (lentAt t k))) r o → r ≤ end + 435 → LinesTo l at t (k + 1) r o
   lines-next h a g =
       let text = wrote-next (so-far .wrote) a in
       record { within = omega arith; near = omega (arith, so-far .near); size = wrote-length text; wrote = rw (lines-more t k h) at text }
@@ -66,5 +66,5 @@ module _ (answer : Answered) (t : List ℕ) (clean : printsStations (answerNumbe
   pub prints-clean : faultOf t ≡ 0
   prints-clean = clean (rw (← is, ← told) h)
 
-  pub prints-room : {l m w : List ℕ} {k : ℕ} → 40000 ≤ length l → Wrote l 0 w k m → k ≤ 73 → k + 423 * (length t / 512) ≤ length m
+  pub prints-room : {l m w : List ℕ} {k : ℕ} → 40000 ≤ length l → Wrote l 0 w k m → k ≤ 73 → k + 435 * (length t / 512) ≤ length m
   prints-room r a g = omega (arith, wrote-length a, leb-true (length t / 512) 64 (accepted-passes t prints-clean .few))

@@ -6,6 +6,7 @@ use Prim.Native.Nat.{ℕ, _+_, _*_, _≤_, _<_}
 use native.Mathlib.Numerals.{add-one}
 use native.Mathlib.Omega.{arith}
 use lib.ListN.{length}
+use borrow.Author.Tests.{eq-eqb, ne-eqb}
 use Rattle.line.specs.declared.Neighbour.{Neighbour}
 use Rattle.line.specs.declared.Message.{Message}
 use Rattle.line.specs.declared.Station as declared
@@ -23,8 +24,8 @@ use Rattle.fields.specs.Fields.{messageOf}
 use Rattle.words.specs.Words.{ascii, decimal, neighbourText, markText, messageText, space, lineFeed, spaced, parted}
 use Rattle.words.specs.Writing.{Wrote}
 use Rattle.words.proofs.Written.{wrote-none, wrote-length, wrote-next}
-use Rattle.words.proofs.Spaces.{spaced-more, parted-append}
-use Rattle.text.specs.Listing.{lineText, reasonWords, carriedWords, headText, stationWords, stationText, stationsText, printsStations, listingText}
+use Rattle.words.proofs.Spaces.{spaced-append, spaced-more, parted-append}
+use Rattle.text.specs.Listing.{lineText, reasonWords, carriedWords, headText, stationWords, siteWords, stationText, stationsText, printsStations, listingText}
 
 -- the reason: the own bag, a holder, none, or one
 module _ (why : Reason) {l m : List ℕ} {at r : ℕ} where
@@ -113,14 +114,29 @@ module _ {l b m : List ℕ} {at n i end : ℕ} (so-far : MessagesTo l at b n i e
   pub messages-all : n ≤ i → n ≡ word b 16 → Wrote l at (spaced (map messageText (messages b (word b 16)))) end m
   messages-all h e = let k : i ≡ word b 16 = omega (arith, so-far .within) in rw k at (so-far .wrote)
 
+-- the site code, where there is one
+module _ (site : ℕ) {l : List ℕ} {at : ℕ} where
+  pub wrote-nowhere : site ≡ 0 → at + 12 ≤ length l → Wrote l at (spaced (siteWords site)) at l
+  unfolding spaced
+  wrote-nowhere e h = rw (eq-eqb site 0 e) (wrote-none (omega arith))
+
+  pub wrote-site : (site ≡ 0 → ⊥) → {m : List ℕ} {r : ℕ} → Wrote l at (ascii " @" ++ decimal site) r m → Wrote l at (spaced (siteWords site)) r m
+  unfolding spaced
+  wrote-site h a = rw (ne-eqb site 0 h, append-nil (decimal site)) a
+
 -- the line of a station
-module _ (b : List ℕ) (s : declared.Station) {l m n o : List ℕ} {at i j r : ℕ} where
-  pub wrote-line : s ≡ stationOf b → Wrote l at (parted (stationWords s)) i m → Wrote m i (spaced (map messageText (messages b (word b 16)))) j n → Wrote n j (lineFeed ∷ []) r o
-      → Wrote l at (stationText (nodeOf b)) r o
+module _ (b : List ℕ) (s : declared.Station) {l m n o p : List ℕ} {at i j k r : ℕ} where
+  pub wrote-line : s ≡ stationOf b → Wrote l at (parted (stationWords s)) i m → Wrote m i (spaced (map messageText (messages b (word b 16)))) j n
+      → Wrote n j (spaced (siteWords (s .marks .site))) k o → Wrote o k (lineFeed ∷ []) r p → Wrote l at (stationText (nodeOf b)) r p
   unfolding nodeOf stationText stationWords lineText
-  wrote-line e a c d =
-      rw (← parted-append (decimal (stationOf b .number)) (neighbourText (stationOf b .left) ∷ neighbourText (stationOf b .right) ∷ markText (stationOf b .marks) ∷ []) (map messageText (messages b (word b 16))))
-      (rw e at (wrote-next (wrote-next a c) d))
+  wrote-line e a c f d =
+      let bag = map messageText (messages b (word b 16)) in
+      let code = siteWords (stationOf b .marks .site) in
+      rw (
+        ← parted-append (decimal (stationOf b .number)) (neighbourText (stationOf b .left) ∷ neighbourText (stationOf b .right) ∷ markText (stationOf b .marks) ∷ []) (bag ++ code),
+        spaced-append bag code,
+      )
+      (rw e at (wrote-next (wrote-next a (wrote-next c f)) d))
 
 -- the lines of one station more
 pub stations-more : (line : Line) (s : Node) → stationsText line ++ stationText s ≡ stationsText (line ++ (s ∷ []))

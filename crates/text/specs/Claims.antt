@@ -7,9 +7,10 @@ use Rattle.line.specs.declared.Refusal.the-variants.{Held}
 use Rattle.line.specs.declared.Ending.the-variants.{Complete, Stopped}
 use Rattle.line.specs.declared.Answered.the-variants.{Ended}
 use Rattle.line.specs.Message.{introduction}
+use Rattle.line.specs.Node.{atSite}
 use Rattle.line.specs.Situations.{staying, leaving}
 use Rattle.words.specs.Words.{ascii}
-use Rattle.text.specs.Listing.{listingText}
+use Rattle.text.specs.Listing.{stationText, listingText}
 
 -- "For 3 (right 5), 5 (left 3, right 9, bag i7), 7 (no neighbours), 9 (left 5), all staying, and the one step 'deliver to 5 introduction
 -- 7'": the line after that step, and its listing.
@@ -27,3 +28,11 @@ pub record ReasonExamples : Type 0 where
   pub holder :
       listingText (Ended (Stopped (Held (HeldBy 3)))) 2 2 (staying 3 None (Station 5) [] ∷ leaving 5 None None [] ∷ [])
       ≡ ascii "answer 14 done 2 stations 2 held-by 3\n3 - 5 stay\n5 - - leave\n"
+
+-- "its code at the end as one word, `@` with the number, or nothing for 0" (document 02, T-05): behind the last message; of a station without
+-- messages; the largest code; and of a station without a code, whose line is as it was.
+pub record SiteExamples : Type 0 where
+  pub behind : stationText (atSite 1234 (leaving 5 (Station 3) None (introduction 7 ∷ []))) ≡ ascii "5 3 - leave i7 @1234\n"
+  pub alone : stationText (atSite 7 (staying 5 None None [])) ≡ ascii "5 - - stay @7\n"
+  pub largest : stationText (atSite 9999 (staying 999999 None None [])) ≡ ascii "999999 - - stay @9999\n"
+  pub nothing : stationText (atSite 0 (staying 5 None (Station 9) (introduction 7 ∷ []))) ≡ ascii "5 - 9 stay i7\n"

@@ -1,4 +1,4 @@
--- The printed listing, byte by byte (document 01, "The printed listing"; document 02, T-02).
+-- The printed listing, byte by byte (document 01, "The printed listing"; document 02, T-02 and T-05).
 use Prim.Native.Nat.{ℕ}
 use mathlib.Core.Bool.{Bool, cond, _&&_, _||_}
 use mathlib.Core.List.{List, [], _∷_, _++_, map}
@@ -10,7 +10,7 @@ use Rattle.line.specs.declared.Carried.{Carried}
 use Rattle.line.specs.declared.Carried.the-variants.{Nothing, Because}
 use Rattle.line.specs.declared.Answered.{Answered}
 use Rattle.line.specs.Answer.{answerNumber, answerReason}
-use Rattle.line.specs.Node.{Node, Line}
+use Rattle.line.specs.Node.{Node, Line, site}
 use Rattle.words.specs.Words.{ascii, decimal, neighbourText, markText, messageText, parted, lineFeed}
 
 -- "Words are parted by one space and each line ends with LF."
@@ -37,8 +37,12 @@ headText answer done stations =
 unfoldable pub stationWords : declared.Station → List (List ℕ)
 stationWords s = decimal (s .number) ∷ neighbourText (s .left) ∷ neighbourText (s .right) ∷ markText (s .marks) ∷ []
 
+-- "The printed line of a station gains its code at the end as one word, `@` with the number, or nothing for 0." (document 02, T-05)
+abbrev pub siteWords : ℕ → List (List ℕ)
+siteWords c = cond (eqb c 0) [] ((ascii "@" ++ decimal c) ∷ [])
+
 unfoldable pub stationText : Node → List ℕ
-stationText s = lineText (stationWords (s .station) ++ map messageText (s .bag))
+stationText s = lineText (stationWords (s .station) ++ (map messageText (s .bag) ++ siteWords (site s)))
 
 -- "there follows a line per station"
 unfoldable pub stationsText : Line → List ℕ

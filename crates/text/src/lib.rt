@@ -1,4 +1,4 @@
-// The printed listing as bytes (document 01, "The printed listing"; document 02, T-02).
+// The printed listing as bytes (document 01, "The printed listing"; document 02, T-02 and T-05).
 mod stations;
 
 use line::Answered;
@@ -71,8 +71,8 @@ fn prints_stations(answer: u32) -> bool
 
 // A line for each block of a table without a fault, in stored order.
 fn put_lines(out: &mut [u8], at: usize, table: &[u8]) -> usize
-    requires { ⌜ (faultOf (now table) ≡ 0) × (at + 423 * (length (now table) / 512) ≤ length (now out)) ⌝ }
-    ensures { λ r. ⌜ Wrote (now (out .entry)) at (stationsText (nodes (now (table .entry)))) r (now (out .exit)) × (r ≤ at + 423 * (length (now (table .entry)) / 512)) ⌝ }
+    requires { ⌜ (faultOf (now table) ≡ 0) × (at + 435 * (length (now table) / 512) ≤ length (now out)) ⌝ }
+    ensures { λ r. ⌜ Wrote (now (out .entry)) at (stationsText (nodes (now (table .entry)))) r (now (out .exit)) × (r ≤ at + 435 * (length (now (table .entry)) / 512)) ⌝ }
 {
     let n = table.len() / 512;
     let mut end = at;

@@ -1,4 +1,4 @@
-// The line of one station (document 01, "The printed listing"): "Words are parted by one space and each line ends with LF."
+// The line of one station (document 01, "The printed listing"; document 02, T-05): "Words are parted by one space and each line ends with LF."
 use block::places::place_at;
 use block::station_of;
 use fields::message_of;
@@ -9,6 +9,7 @@ use octets::word_at;
 use words::put;
 use words::put_mark;
 use words::put_message;
+use words::put_named;
 use words::put_neighbour;
 use words::put_number;
 ghost use mathlib.Core.Path.{_≡_};
@@ -19,7 +20,7 @@ ghost use Rattle.octets.specs.Bytes.{word};
 ghost use Rattle.block.specs.Layout.{messages, nodeOf};
 ghost use Rattle.words.specs.Words.{neighbourText, messageText, space, spaced, parted};
 ghost use Rattle.words.specs.Writing.{Wrote};
-ghost use Rattle.text.specs.Listing.{stationWords, stationText};
+ghost use Rattle.text.specs.Listing.{stationWords, siteWords, stationText};
 
 // "left, right", with a space before each.
 fn put_neighbours(out: &mut [u8], at: usize, left: Neighbour, right: Neighbour) -> usize
@@ -70,12 +71,26 @@ fn put_messages(out: &mut [u8], at: usize, b: &[u8]) -> usize
     end
 }
 
-// The line of the station in a block: up to 38 bytes for the station, 384 for its messages and the line feed.
-pub(crate) fn put_line(out: &mut [u8], at: usize, b: &[u8]) -> usize
-    requires { ⌜ (length (now b) ≡ 512) × (word (now b) 16 ≤ 32) × (at + 423 ≤ length (now out)) ⌝ }
-    ensures { λ r. ⌜ Wrote (now (out .entry)) at (stationText (nodeOf (now (b .entry)))) r (now (out .exit)) × (r ≤ at + 423) ⌝ }
+// "its code at the end as one word, `@` with the number, or nothing for 0" (document 02, T-05), behind a space.
+fn put_site(out: &mut [u8], at: usize, site: u16) -> usize
+    requires { ⌜ at + 12 ≤ length (now out) ⌝ }
+    ensures { λ r. ⌜ Wrote (now (out .entry)) at (spaced (siteWords site)) r (now (out .exit)) × (r ≤ at + 12) ⌝ }
 {
-    let named = put_station(out, at, station_of(b));
-    let end = put_messages(out, named, b);
+    if site == 0 {
+        return at;
+    }
+    put_named(out, at, b" @", site as u32)
+}
+
+// The line of the station in a block: up to 38 bytes for the station, 384 for its messages, 12 for its site code and the line feed.
+pub(crate) fn put_line(out: &mut [u8], at: usize, b: &[u8]) -> usize
+    requires { ⌜ (length (now b) ≡ 512) × (word (now b) 16 ≤ 32) × (at + 435 ≤ length (now out)) ⌝ }
+    ensures { λ r. ⌜ Wrote (now (out .entry)) at (stationText (nodeOf (now (b .entry)))) r (now (out .exit)) × (r ≤ at + 435) ⌝ }
+{
+    let station = station_of(b);
+    let marks = station.marks;
+    let named = put_station(out, at, station);
+    let listed = put_messages(out, named, b);
+    let end = put_site(out, listed, marks.site);
     put(out, end, b'\n')
 }

@@ -5,7 +5,7 @@ use Prim.Native.Nat.{ℕ}
 use Rattle.words.specs.Words.{space, spaced, parted}
 
 -- words behind words
-spaced-append : (a b : List (List ℕ)) → spaced (a ++ b) ≡ spaced a ++ spaced b
+pub spaced-append : (a b : List (List ℕ)) → spaced (a ++ b) ≡ spaced a ++ spaced b
 unfolding spaced
 spaced-append [] b = refl
 spaced-append (w ∷ a) b = rw (spaced-append a b, append-assoc)

@@ -14,10 +14,10 @@ use Rattle.line.specs.declared.Content.{Content}
 use Rattle.line.specs.declared.Content.the-variants.{Introduction}
 use Rattle.line.specs.declared.Message.{Message}
 use Rattle.line.specs.Message.{kind, carried, introduction}
-use Rattle.line.specs.Node.{Node}
+use Rattle.line.specs.Node.{Node, site}
 use Rattle.line.proofs.AcceptedTest.{in-range}
-use Rattle.line.specs.Marks.{flags, reserved, marksFrom}
-use Rattle.line.proofs.MarkWords.{flags-low, reserved-same, flags-hold, reserved-hold, marks-back}
+use Rattle.line.specs.Marks.{flags, marksFrom}
+use Rattle.line.proofs.MarkWords.{flags-low, site-low, flags-hold, site-hold, marks-back}
 use Rattle.lists.proofs.Elements.{member-at}
 use Rattle.octets.specs.Bytes.{word, quad, le16, le32, sumWords, part, allZero}
 use Rattle.octets.proofs.Endian.{word-written, quad-written}
@@ -93,7 +93,7 @@ module _ (s : Node) (w : Writable s) (rest : List ℕ) where
   right-in = w .neighbours Right
 
   count-bytes : List ℕ
-  count-bytes = le16 (length (s .bag)) ++ (le16 (reserved (s .station .marks)) ++ rest)
+  count-bytes = le16 (length (s .bag)) ++ (le16 (site s) ++ rest)
 
   right-bytes : List ℕ
   right-bytes = le32 (neighbourNumber (s .station .right)) ++ count-bytes
@@ -138,19 +138,17 @@ module _ (s : Node) (w : Writable s) (rest : List ℕ) where
 
   count-back : word (header s ++ rest) 16 ≡ length (s .bag)
   unfolding header
-  count-back = let r = w .small in word-written (length (s .bag)) 16 to-count (le16 (reserved (s .station .marks)) ++ rest) refl (omega arith)
+  count-back = let r = w .small in word-written (length (s .bag)) 16 to-count (le16 (site s) ++ rest) refl (omega arith)
 
-  reserved-back : word (header s ++ rest) 18 ≡ reserved (s .station .marks)
+  site-back : word (header s ++ rest) 18 ≡ site s
   unfolding header
-  reserved-back =
-      word-written (reserved (s .station .marks)) 18 (to-count ++ le16 (length (s .bag))) rest refl
-      (omega (arith, reserved-same 0 (reserved (s .station .marks)) (reserved-hold (s .station .marks) (w .marked)) .1))
+  site-back = word-written (site s) 18 (to-count ++ le16 (length (s .bag))) rest refl (omega (arith, site-low (site s) (site-hold (s .station .marks) (w .marked))))
 
   station-back : stationOf (header s ++ rest) ≡ s .station
   unfolding stationOf
   station-back =
       let words : marksFrom (word (header s ++ rest) 2) (word (header s ++ rest) 18) ≡ s .station .marks =
-      (λ i. marksFrom (flags-back i) (reserved-back i)) ∙ marks-back (s .station .marks) in
+      (λ i. marksFrom (flags-back i) (site-back i)) ∙ marks-back (s .station .marks) in
       rw (number-back, left-back, right-back, words, neighbour-back (s .station .left) left-in, neighbour-back (s .station .right) right-in)
 
 -- The whole block.
@@ -193,9 +191,9 @@ module _ (s : Node) (w : Writable s) where
         left-back s w after,
         right-back s w after,
         count-back s w after,
-        reserved-back s w after,
+        site-back s w after,
         flags-hold (s .station .marks) (w .marked),
-        reserved-hold (s .station .marks) (w .marked),
+        site-hold (s .station .marks) (w .marked),
         in-range (s .station .number) .1 (w .numbered),
         le-leb (neighbourNumber (s .station .left)) 999999 (neighbour-low (s .station .left) (left-in s w after)),
         le-leb (neighbourNumber (s .station .right)) 999999 (neighbour-low (s .station .right) (right-in s w after)),

@@ -10,7 +10,7 @@ use lib.ListN.{length, drop, replicate, replicate-append-replicate, drop-of-leng
 use Rattle.line.specs.declared.Neighbour.the-variants.{None, Station}
 use Rattle.line.specs.declared.Message.{Message}
 use Rattle.line.specs.Node.{Node}
-use Rattle.line.proofs.MarkWords.{flags-same, reserved-same}
+use Rattle.line.proofs.MarkWords.{flags-same}
 use Rattle.octets.specs.Bytes.{word, quad, le16, le32, sumWords, AreBytes}
 use Rattle.octets.proofs.Both.{and-left, and-right}
 use Rattle.octets.proofs.Endian.{word-read, quad-read}
@@ -84,7 +84,7 @@ module _ (b : List ℕ) (len : length b ≡ 512) (bytes : AreBytes b) where
         ++ (le16 (flags-same (word b 2) (word b 18) (facts .flag) i)
         ++ (le32 (quad b 4)
         ++ (le32 (neighbour-same (quad b 8) i)
-        ++ (le32 (neighbour-same (quad b 12) i) ++ (le16 (length-messages b n i) ++ le16 (reserved-same (word b 2) (word b 18) (facts .reserved) .0 i))))))
+        ++ (le32 (neighbour-same (quad b 12) i) ++ (le16 (length-messages b n i) ++ le16 (word b 18))))))
 
     header-read : header s ++ drop 20 b ≡ b
     header-read =

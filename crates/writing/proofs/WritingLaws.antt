@@ -9,7 +9,7 @@ use lib.Seq.{take-suc, length-take-le}
 use Rattle.line.specs.declared.Message.{Message}
 use Rattle.line.specs.Message.{kind, carried}
 use Rattle.line.specs.declared.Station as declared
-use Rattle.line.specs.Marks.{flags, reserved}
+use Rattle.line.specs.Marks.{flags}
 use Rattle.line.specs.Node.{Node}
 use Rattle.bag.specs.declared.Bag.{Bag}
 use Rattle.bag.specs.Held.{held, Sized}
@@ -31,10 +31,10 @@ place-written l i m h k x y n z =
     rw (z, y, x, k, n) (rw (overwrite-next i (i + 2) a (le16 0) l refl low, overwrite-next i (i + 4) (a ++ le16 0) (le32 (carried (m .content))) l refl low))
 
 -- the seven fields of the header
-pub fields-written : (l : List ℕ) (flags number left right count reserved : ℕ) {a b c d e f g : List ℕ} → a ≡ overwrite 0 (le16 1) l → b ≡ overwrite 2 (le16 flags) a → c ≡ overwrite 4 (le32 number) b
-    → d ≡ overwrite 8 (le32 left) c → e ≡ overwrite 12 (le32 right) d → f ≡ overwrite 16 (le16 count) e → g ≡ overwrite 18 (le16 reserved) f
-    → g ≡ overwrite 0 (le16 1 ++ (le16 flags ++ (le32 number ++ (le32 left ++ (le32 right ++ (le16 count ++ le16 reserved)))))) l
-fields-written l flags number left right count reserved a b c d e f g =
+pub fields-written : (l : List ℕ) (flags number left right count site : ℕ) {a b c d e f g : List ℕ} → a ≡ overwrite 0 (le16 1) l → b ≡ overwrite 2 (le16 flags) a → c ≡ overwrite 4 (le32 number) b
+    → d ≡ overwrite 8 (le32 left) c → e ≡ overwrite 12 (le32 right) d → f ≡ overwrite 16 (le16 count) e → g ≡ overwrite 18 (le16 site) f
+    → g ≡ overwrite 0 (le16 1 ++ (le16 flags ++ (le32 number ++ (le32 left ++ (le32 right ++ (le16 count ++ le16 site)))))) l
+fields-written l flags number left right count site a b c d e f g =
     let h : 0 ≤ length l = omega arith in
     let to-number = le16 1 ++ le16 flags in
     let to-left = to-number ++ le32 number in
@@ -47,17 +47,17 @@ fields-written l flags number left right count reserved a b c d e f g =
       overwrite-next 0 8 to-left (le32 left) l refl h,
       overwrite-next 0 12 to-right (le32 right) l refl h,
       overwrite-next 0 16 to-count (le16 count) l refl h,
-      overwrite-next 0 18 (to-count ++ le16 count) (le16 reserved) l refl h,
+      overwrite-next 0 18 (to-count ++ le16 count) (le16 site) l refl h,
     ))
 
 -- each field of the header is the number that says it
-pub header-written : (s : declared.Station) (b : Bag) (l : List ℕ) {f left right n r : ℕ} {x : List ℕ} → f ≡ flags (s .marks) → left ≡ neighbourNumber (s .left)
-    → right ≡ neighbourNumber (s .right) → Sized b n → r ≡ reserved (s .marks)
-    → x ≡ overwrite 0 (le16 1 ++ (le16 f ++ (le32 (s .number) ++ (le32 left ++ (le32 right ++ (le16 n ++ le16 r)))))) l
+pub header-written : (s : declared.Station) (b : Bag) (l : List ℕ) {f left right n : ℕ} {x : List ℕ} → f ≡ flags (s .marks) → left ≡ neighbourNumber (s .left)
+    → right ≡ neighbourNumber (s .right) → Sized b n
+    → x ≡ overwrite 0 (le16 1 ++ (le16 f ++ (le32 (s .number) ++ (le32 left ++ (le32 right ++ (le16 n ++ le16 (s .marks .site))))))) l
     → x ≡ overwrite 0 (header (record { station = s; bag = held b })) l
 unfolding header
-header-written s b l f left right n r x =
-    x ∙ (λ i. overwrite 0 (le16 1 ++ (le16 (f i) ++ (le32 (s .number) ++ (le32 (left i) ++ (le32 (right i) ++ (le16 (n .is i) ++ le16 (r i))))))) l)
+header-written s b l f left right n x =
+    x ∙ (λ i. overwrite 0 (le16 1 ++ (le16 (f i) ++ (le32 (s .number) ++ (le32 (left i) ++ (le32 (right i) ++ (le16 (n .is i) ++ le16 (s .marks .site))))))) l)
 
 -- a place is 8 bytes, and the places stand one after the other
 pub length-placesBytes : (ms : List Message) → length (placesBytes ms) ≡ 8 * length ms

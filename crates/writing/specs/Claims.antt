@@ -9,7 +9,7 @@ use Rattle.line.specs.declared.Neighbour.the-variants.{None, Station}
 use Rattle.line.specs.declared.Side.{Side}
 use Rattle.line.specs.Message.{introduction, capacity}
 use Rattle.line.specs.Marks.{marksHold}
-use Rattle.line.specs.Node.{Node, number, neighbour}
+use Rattle.line.specs.Node.{Node, number, atSite, neighbour}
 use Rattle.line.specs.Accepted.{hasSides}
 use Rattle.line.specs.Situations.{staying}
 use Rattle.octets.specs.Bytes.{sumWords, AreBytes}
@@ -57,3 +57,18 @@ pub record CheckExample : Type 0 where
   pub ending : drop 510 exampleBlock ≡ 0xE7 ∷ 0xFF ∷ []
   pub accepted : faultOf exampleBlock ≡ 0
   pub zeros : faultOf (replicate 512 0) ≡ 3
+
+-- The same block with a site code (document 02, T-05): 1,234 is 0x04D2, its low byte in byte 18 and its high byte in byte 19; the words sum to
+-- 1,258 without the check, so the check word is 64,277 (bytes 15 FB). 9,999 is accepted, and 10,000 is refused with 4.
+unfoldable pub siteBlock : List ℕ
+siteBlock =
+    (1 ∷ 0 ∷ 0 ∷ 0 ∷ 5 ∷ 0 ∷ 0 ∷ 0 ∷ 0 ∷ 0 ∷ 0 ∷ 0 ∷ 9 ∷ 0 ∷ 0 ∷ 0 ∷ 1 ∷ 0 ∷ 0xD2 ∷ 0x04 ∷ [])
+    ++ ((1 ∷ 0 ∷ 0 ∷ 0 ∷ 7 ∷ 0 ∷ 0 ∷ 0 ∷ []) ++ (replicate 482 0 ++ (0x15 ∷ 0xFB ∷ [])))
+
+pub record SiteExample : Type 0 where
+  pub written : encode (atSite 1234 exampleNode) ≡ siteBlock
+  pub read : nodeOf siteBlock ≡ atSite 1234 exampleNode
+  pub words : sumWords (take 510 siteBlock) ≡ 1258
+  pub accepted : faultOf siteBlock ≡ 0
+  pub largest : faultOf (encode (atSite 9999 exampleNode)) ≡ 0
+  pub above : faultOf (encode (atSite 10000 exampleNode)) ≡ 4

@@ -5,9 +5,9 @@ use lib.ListN.{length, replicate}
 use Rattle.line.specs.declared.Neighbour.{Neighbour}
 use Rattle.line.specs.declared.Neighbour.the-variants.{None, Station}
 use Rattle.line.specs.declared.Message.{Message}
-use Rattle.line.specs.Marks.{flags, reserved}
+use Rattle.line.specs.Marks.{flags}
 use Rattle.line.specs.Message.{kind, carried}
-use Rattle.line.specs.Node.{Node}
+use Rattle.line.specs.Node.{Node, site}
 use Rattle.octets.specs.Bytes.{le16, le32, sumWords}
 
 -- "0 for none"
@@ -29,7 +29,7 @@ header s =
     ++ (le16 (flags (s .station .marks))
     ++ (le32 (s .station .number)
     ++ (le32 (neighbourNumber (s .station .left))
-    ++ (le32 (neighbourNumber (s .station .right)) ++ (le16 (length (s .bag)) ++ le16 (reserved (s .station .marks)))))))
+    ++ (le32 (neighbourNumber (s .station .right)) ++ (le16 (length (s .bag)) ++ le16 (site s))))))
 
 -- the check word makes the sum 65,535
 unfoldable pub withCheck : List ℕ → List ℕ

@@ -60,10 +60,10 @@ fn write_fields(
     left: u32,
     right: u32,
     count: u16,
-    reserved: u16,
+    site: u16,
 )
     requires { ⌜ length (now room) ≡ 512 ⌝ }
-    ensures { λ _. ⌜ now (room .exit) ≡ overwrite 0 (le16 1 ++ (le16 flags ++ (le32 number ++ (le32 left ++ (le32 right ++ (le16 count ++ le16 reserved)))))) (now (room .entry)) ⌝ }
+    ensures { λ _. ⌜ now (room .exit) ≡ overwrite 0 (le16 1 ++ (le16 flags ++ (le32 number ++ (le32 left ++ (le32 right ++ (le16 count ++ le16 site)))))) (now (room .entry)) ⌝ }
 {
     write_word(room, 0, 1);
     write_word(room, 2, flags);
@@ -71,7 +71,7 @@ fn write_fields(
     write_quad(room, 8, left);
     write_quad(room, 12, right);
     write_word(room, 16, count);
-    write_word(room, 18, reserved);
+    write_word(room, 18, site);
 }
 
 // Bytes 0 to 19 of a station and its bag.
@@ -90,7 +90,7 @@ fn write_header(room: &mut [u8], station: Station, bag: Bag)
         neighbour_number(left),
         neighbour_number(right),
         count,
-        marks.reserved(),
+        marks.site,
     );
 }
 

@@ -5,13 +5,15 @@
  * (table, list, room), read or write, and where: before it, behind it, or inside (a byte of a table or a list, or of a room past the
  * table or the list written). The questions of a roll call are its list, and its records the room. "stale" and run, leave or roll is one
  * that gives an earlier reason again where there is none to give. "ends" is a program that dies after its last line. What else a roll call
- * and the line question may do wrong is in roll_call.c and in_line.c. Without WRONG nothing is wrong. */
+ * and the line question may do wrong is in roll_call.c and in_line.c, and what may be wrong with site codes in sites.c. Without WRONG
+ * nothing is wrong. */
 #include "touch.h"
 
 #include <stdio.h>
 #include <stdlib.h>
 #include <string.h>
 
+#include "sites.h"
 #include "station_line.h"
 
 uint32_t __real_station_line_check(const uint8_t *table, size_t table_len);
@@ -70,14 +72,16 @@ __attribute__((constructor)) static void start(void) {
 }
 
 uint32_t __wrap_station_line_check(const uint8_t *table, size_t table_len) {
-    uint32_t number = __real_station_line_check(table, table_len);
+    uint32_t number = __real_station_line_check(with_other_bound(table, table_len), table_len);
     touch("check", "table", table, table_len, 0);
     return number;
 }
 
 struct station_line_ran __wrap_station_line_run(const uint8_t *table, size_t table_len, const uint8_t *steps, size_t steps_len,
                                                 uint8_t *room, size_t room_len) {
-    struct station_line_ran ran = __real_station_line_run(table, table_len, steps, steps_len, room, room_len);
+    const uint8_t *read = with_other_bound(table, table_len);
+    struct station_line_ran ran = __real_station_line_run(read, table_len, steps, steps_len, room, room_len);
+    spoil_sites(table, room, ran.stations);
     touch("run", "table", table, table_len, 0);
     touch("run", "list", steps, steps_len, 0);
     touch("run", "room", room, room_len, (size_t)512 * ran.stations);
@@ -96,6 +100,7 @@ struct station_line_leave __wrap_station_line_may_leave(const uint8_t *table, si
     struct station_line_leave leave = __real_station_line_may_leave(table, table_len, station);
     touch("leave", "table", table, table_len, 0);
     keep_reason("leave", &leave.reason, &leave.holder);
+    hold_by_site(&leave, table, table_len, station);
     return leave;
 }
 

@@ -1,4 +1,4 @@
--- The station, its messages and the line feed, side by side.
+-- The station, its messages, its site code and the line feed, side by side.
 use borrow.Author.Needs.{needs}
 use native.Mathlib.Omega.{arith}
 use Rattle.text.proofs.Lines.{wrote-line}
@@ -12,6 +12,7 @@ pub put-line-spec : {M : Type 1} → statement M
 put-line-spec =
     tie.close
     (tie.spec
+    (λ c κs. search needs)
     (λ c κs. search needs)
     (λ c κs. search needs)
     (λ c κs. search needs)
