@@ -9,8 +9,8 @@
  *
  * A table is a run of 512-byte blocks, one per station, at most 64 of them. A step list is a run of 12-byte steps, at most 4,096
  * of them. A block may have a site code, 1 to 9,999: every step carries it unchanged, and nothing else looks at it (since version 2.3;
- * before, its two bytes were 0). Integers are little-endian. docs/FORMAT.md has every byte; station_line_layout.h takes a block or a step apart and puts it
- * together.
+ * before, its two bytes were 0). Integers are little-endian. docs/FORMAT.md has every byte; station_line_layout.h takes a block or a
+ * step apart and puts it together.
  */
 #ifndef STATION_LINE_H
 #define STATION_LINE_H

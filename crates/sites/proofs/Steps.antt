@@ -81,16 +81,15 @@ sends (m ∷ l) line =
     ap (sendAll l) (changes (m .to) (withMessage (m .message)) (withMessage (m .message)) (receives (m .message)) line)
     ∙ sends l (map (change (m .to) (withMessage (m .message))) line)
 
-rooms : (line : Line) (m : Send) → hasRoom (withoutSites line) m ≡ hasRoom line m
-unfolding hasRoom all atSite
-rooms line m = go line
-  where
-    roomy : Node → Bool
-    roomy s = not (eqb (number s) (m .to)) || ltb (length (s .bag)) capacity
+-- a test that does not look at the code
+pub all-same : (f : Node → Bool) → ((s : Node) → f (atSite 0 s) ≡ f s) → (line : Line) → all f (withoutSites line) ≡ all f line
+unfolding all
+all-same f h [] = refl
+all-same f h (s ∷ line) = rw (h s, all-same f h line)
 
-    go : (l : Line) → all roomy (withoutSites l) ≡ all roomy l
-    go [] = refl
-    go (s ∷ l) = rw (go l)
+rooms : (line : Line) (m : Send) → hasRoom (withoutSites line) m ≡ hasRoom line m
+unfolding hasRoom atSite
+rooms line m = all-same (λ (s : Node). not (eqb (number s) (m .to)) || ltb (length (s .bag)) capacity) (λ s. refl) line
 
 all-rooms : (line : Line) (l : List Send) → all (hasRoom (withoutSites line)) l ≡ all (hasRoom line) l
 unfolding all

@@ -8,6 +8,7 @@ use lib.ListN.{length}
 use Rattle.line.specs.declared.Reading.{Reading}
 use Rattle.line.specs.Node.{Node, Line, atSite, inWrittenOrder}
 use Rattle.line.specs.Leave.{leaveOf}
+use Rattle.line.specs.InLine.{inLine}
 use Rattle.line.specs.Run.{run}
 use Rattle.line.specs.Situations.{Situation, Holds}
 use Rattle.octets.specs.Bytes.{word, quad, AreBytes}
@@ -25,10 +26,11 @@ SitesKept =
     (t steps room c : List ℕ) → Member c (blocks (tableIn (outcome t steps room)))
     → (b : List ℕ) × Member b (blocks t) × (quad b 4 ≡ quad c 4) × (word b 18 ≡ word c 18)
 
--- 2. "It plays no part in any order, step rule or NIDEC": of every line, accepted or not.
+-- 2. "It plays no part in any order, step rule or NIDEC", nor in whether a line is in line: of every line, accepted or not.
 pub record SitesPlayNoPart : Type 0 where
   pub order : (line : Line) → inWrittenOrder (withoutSites line) ≡ withoutSites (inWrittenOrder line)
   pub nidec : (line : Line) (s : Node) → leaveOf (withoutSites line) (atSite 0 s) ≡ leaveOf line s
+  pub lined : (line : Line) → inLine (withoutSites line) ≡ inLine line
   pub runs : (line : Line) (l : List Reading) → run (withoutSites line) l ≡ runWithoutSites (run line l)
 
 -- 3. The same on the bytes: an accepted table with 0 in bytes 18-19 of every block is accepted, and every run over it gives the same answer,
