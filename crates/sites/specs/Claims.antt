@@ -10,14 +10,15 @@ use Rattle.line.specs.Node.{Node, Line, atSite, inWrittenOrder}
 use Rattle.line.specs.Leave.{leaveOf}
 use Rattle.line.specs.InLine.{inLine}
 use Rattle.line.specs.Run.{run}
-use Rattle.line.specs.Situations.{Situation, Holds}
+use Rattle.line.specs.Situations.{Situation, Holds, situations}
 use Rattle.octets.specs.Bytes.{word, quad, AreBytes}
+use Rattle.writing.specs.Claims.{exampleBlock, siteBlock}
 use Rattle.table.specs.Blocks.{blocks}
 use Rattle.table.specs.Fault.{faultOf}
 use Rattle.finishing.specs.Ended.{Outcome}
 use Rattle.engine.specs.Ran.{outcome, tableIn}
-use Rattle.sites.specs.Sites.{withoutSites, runWithoutSites, tableWithoutSites}
-use Rattle.sites.specs.Examples.{siteSituations}
+use Rattle.sites.specs.Sites.{withoutSites, runWithoutSites, blockWithoutSite, tableWithoutSites}
+use Rattle.sites.specs.Examples.{situationWithoutSites, siteSituations}
 
 -- 1. "Every step carries it unchanged", on the bytes: each block of the table that a run writes has a block in the table read with its station
 -- number, bytes 4-7, and its site code, bytes 18-19.
@@ -46,6 +47,14 @@ TablesWithoutSites =
     (t steps room room′ : List ℕ) → AreBytes t → faultOf t ≡ 0 → length room ≡ length room′
     → (faultOf (tableWithoutSites t) ≡ 0) × SameWithoutSites (outcome t steps room) (outcome (tableWithoutSites t) steps room′)
 
--- 4. Worked situations with codes.
+-- 4. Worked situations with codes. With all codes taken out each of them is one of document 01's own.
 abbrev pub SiteSituationsHold : Type 0
 SiteSituationsHold = (x : Situation) → Member x siteSituations → Holds x
+
+abbrev pub SituationsWithoutSites : Type 0
+SituationsWithoutSites = (x : Situation) → Member x siteSituations → Member (situationWithoutSites x) situations
+
+-- And the worked blocks: the one at site 1,234 with its code taken out is document 01's own, in which there is none to take out.
+pub record BlocksWithoutSite : Type 0 where
+  pub coded : blockWithoutSite siteBlock ≡ exampleBlock
+  pub plain : blockWithoutSite exampleBlock ≡ exampleBlock

@@ -6,6 +6,12 @@ use Rattle.line.specs.declared.Side.the-variants.{Left}
 use Rattle.line.specs.Message.{introduction, removal}
 use Rattle.line.specs.Node.{atSite}
 use Rattle.line.specs.Situations.{Situation, doing, refusing, staying, leaving, single, deliverTo, exitOf}
+use Rattle.sites.specs.Sites.{withoutSites}
+
+-- a situation with all codes taken out
+abbrev pub situationWithoutSites : Situation → Situation
+situationWithoutSites x =
+    record { before = withoutSites (x .before); step = x .step; answer = x .answer; steps = x .steps; after = withoutSites (x .after) }
 
 unfoldable pub siteSituations : List Situation
 siteSituations =
