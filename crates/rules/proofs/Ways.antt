@@ -5,6 +5,7 @@ use mathlib.Core.Bool.{Bool, true, false, cond, not}
 use mathlib.Core.List.{List, [], _++_, append-nil}
 use mathlib.Core.Option.{none, some}
 use Prim.Native.Nat.{ℕ, _≤_, _<_}
+use lib.Dec.{eqb}
 use borrow.Author.Tests.{eq-eqb, ne-eqb, lt-ltb, le-ltb, not-true, not-false}
 use Rattle.line.specs.declared.Neighbour.{Neighbour}
 use Rattle.line.specs.declared.Neighbour.the-variants.{None, Station}
@@ -23,9 +24,12 @@ use Rattle.line.specs.declared.Refusal.{Refusal}
 use Rattle.line.specs.declared.Refusal.the-variants.{NotInBag, Staying, Held}
 use Rattle.line.specs.Answer.{refused, done, require, unlessHeld}
 use Rattle.line.specs.Message.{introduction, removal, holds, remove}
-use Rattle.line.specs.Node.{opposite, beyond, sideOf, neighbour, withNeighbour}
-use Rattle.line.specs.Act.{Send, sendTo, notice, timeout, Reaction, unchanged, meet, introduced, dropNeighbour, obeys, removed, received, introduceBoth, kept, act}
+use Rattle.line.specs.Node.{opposite, beyond, neighbour, withNeighbour}
+use Rattle.line.specs.Act.{Send, sendTo, notice, timeout, Reaction, unchanged, dropNeighbour, obeys, removed, received, introduceBoth, kept, act}
+use Rattle.line.specs.Report.{process, Intro, less, mail, leftId, rightId}
 use Rattle.lists.proofs.Lists.{clash}
+use Rattle.delivery.specs.Lemma3.{variable, below, equal, onSide, introduced}
+use Rattle.delivery.proofs.Agreement.{order-agrees}
 use Rattle.rules.specs.declared.Sending.{Sending}
 use Rattle.rules.specs.declared.Sending.the-variants.{Nothing, To}
 use Rattle.rules.specs.declared.Sendings.{Sendings}
@@ -35,14 +39,6 @@ use Rattle.rules.specs.declared.Decision.{Decision}
 use Rattle.rules.specs.Decided.{sent, bothSent, reaction, isFound, rest, effect, decided, Decides}
 
 -- The sides.
-pub side-above : (p q : ℕ) → p < q → Right ≡ sideOf p q
-unfolding sideOf
-side-above p q h = rw (lt-ltb p q h)
-
-pub side-below : (p q : ℕ) → q ≤ p → Left ≡ sideOf p q
-unfolding sideOf
-side-below p q h = rw (le-ltb p q h)
-
 module _ (d : Side) where
   pub with-left : (n : Neighbour) (s : declared.Station) → d ≡ Left → record { number = s .number; left = n; right = s .right; marks = s .marks } ≡ withNeighbour d n s
   unfolding withNeighbour
@@ -85,26 +81,63 @@ pub timed-out : (p : declared.Station) (m k : Message) (a b : Sending) → m ≡
 unfolding timeout
 timed-out p m k a b e f g h = ap₂ (λ (x y : List Send). x ++ y) (g ∙ ap (sendTo (p .left)) e) (h ∙ ap (sendTo (p .right)) f)
 
--- An introduction of q, who lies on side d of p, where the neighbour is n; t is p afterwards.
-module _ (d : Side) (p : declared.Station) (q : ℕ) (n : Neighbour) where
-  pub met-none : (t : declared.Station) → n ≡ None → t ≡ withNeighbour d (Station q) p → reaction (record { station = t; sending = Nothing }) ≡ meet d p q n
-  unfolding meet
-  met-none t e f = rw (e, f)
+-- What holds on the left and on the right holds on each side.
+on-each : (P : Side → Type 0) → P Left → P Right → (d : Side) → P d
+on-each P l r Left = l
+on-each P l r Right = r
 
-  module _ (r : ℕ) (b : Bool) where
-    pub met-nearer : (t : declared.Station) (m : Message) → n ≡ Station r → b ≡ beyond d q r → b ≡ true → t ≡ withNeighbour d (Station q) p → m ≡ introduction r
-        → reaction (record { station = t; sending = To q m }) ≡ meet d p q n
-    unfolding meet
-    met-nearer t m e f i g h = rw (e, ← f, i, g, h)
+-- An introduction of id beside a neighbour n, which the text takes for its variable.
+variable-station : (d : Side) (q : ℕ) → variable d (Station q) ≡ process q
+unfolding leftId rightId
+variable-station d q = on-each (λ d. variable d (Station q) ≡ process q) refl refl d
 
-    pub met-equal : (x : Reacted) → n ≡ Station r → b ≡ beyond d q r → b ≡ false → q ≡ r → reaction x ≡ unchanged p → reaction x ≡ meet d p q n
-    unfolding meet
-    met-equal x e f i g h = h ∙ rw (e, ← f, i, eq-eqb q r g)
+module _ (id : ℕ) (n : Neighbour) (d : Side) where
+  pub below-none : n ≡ None → true ≡ below d id (variable d n)
+  unfolding below less leftId rightId
+  below-none e = rw e (on-each (λ d. true ≡ below d id (variable d None)) refl refl d)
 
-    pub met-farther : (m : Message) → n ≡ Station r → b ≡ beyond d q r → b ≡ false → (q ≡ r → ⊥) → m ≡ introduction q
-        → reaction (record { station = p; sending = To r m }) ≡ meet d p q n
-    unfolding meet
-    met-farther m e f i g h = rw (e, ← f, i, ne-eqb q r g, h)
+  pub below-station : (q : ℕ) {b : Bool} → n ≡ Station q → b ≡ beyond d id q → b ≡ below d id (variable d n)
+  unfolding below less beyond
+  below-station q e f = rw (e, variable-station d q) (f ∙ on-each (λ d. beyond d id q ≡ below d id (process q)) refl refl d)
+
+  pub equal-none : n ≡ None → false ≡ equal id (variable d n)
+  unfolding equal leftId rightId
+  equal-none e = rw e (on-each (λ d. false ≡ equal id (variable d None)) refl refl d)
+
+  pub equal-station : (q : ℕ) → n ≡ Station q → eqb id q ≡ equal id (variable d n)
+  unfolding equal
+  equal-station q e = rw (e, variable-station d q)
+
+  pub nothing-introduced : n ≡ None → sent Nothing ≡ mail (Intro (variable d n)) (process id)
+  unfolding mail leftId rightId
+  nothing-introduced e = rw e (on-each (λ d. sent Nothing ≡ mail (Intro (variable d None)) (process id)) refl refl d)
+
+  pub one-introduced : (q : ℕ) (m : Message) → n ≡ Station q → m ≡ introduction q → sent (To id m) ≡ mail (Intro (variable d n)) (process id)
+  unfolding mail
+  one-introduced q m e f = rw (e, variable-station d q, f)
+
+-- what a neighbour is sent, the variable is sent
+forwards : (id : ℕ) (n : Neighbour) (d : Side) → sendTo n (introduction id) ≡ mail (Intro (process id)) (variable d n)
+unfolding sendTo mail leftId rightId
+forwards id None d = on-each (λ d. sendTo None (introduction id) ≡ mail (Intro (process id)) (variable d None)) refl refl d
+forwards id (Station q) d = rw (variable-station d q)
+
+-- An introduction of id, who lies on side d of p, where the neighbour is n: below, equal and above; t is p afterwards.
+module _ (d : Side) (p : declared.Station) (id : ℕ) (n : Neighbour) (b : Bool) (f : b ≡ below d id (variable d n)) where
+  pub on-below : (t : declared.Station) (x : Sending) → b ≡ true → t ≡ withNeighbour d (Station id) p → ((e : Side) → sent x ≡ mail (Intro (variable e n)) (process id))
+      → reaction (record { station = t; sending = x }) ≡ onSide d p id (variable d n)
+  unfolding onSide
+  on-below t x i g h = rw (← f, i, g, h d)
+
+  module _ (c : Bool) (h : (e : Side) → c ≡ equal id (variable e n)) where
+    pub on-equal : (x : Reacted) → b ≡ false → c ≡ true → reaction x ≡ unchanged p → reaction x ≡ onSide d p id (variable d n)
+    unfolding onSide
+    on-equal x i k g = g ∙ rw (← f, i, ← h d, k)
+
+    pub on-above : (m : Message) (x : Sending) → b ≡ false → c ≡ false → m ≡ introduction id → sent x ≡ sendTo n m
+        → reaction (record { station = p; sending = x }) ≡ onSide d p id (variable d n)
+    unfolding onSide
+    on-above m x i k e g = ap (λ (l : List Send). record { station = p; sends = l }) (g ∙ ap (sendTo n) e ∙ forwards id n d) ∙ rw (← f, i, ← h d, k)
 
 -- The neighbour n on side d is dropped, or there is none.
 module _ (d : Side) (p : declared.Station) (n : Neighbour) where
@@ -119,14 +152,18 @@ module _ (d : Side) (p : declared.Station) (n : Neighbour) where
 
 -- x is what the call gave
 module _ (x : Reacted) (p : declared.Station) where
-  pub introduced-itself : (q : ℕ) → q ≡ p .number → reaction x ≡ unchanged p → reaction x ≡ introduced p q
-  unfolding introduced
-  introduced-itself q e h = h ∙ rw (eq-eqb q (p .number) e)
+  module _ (id : ℕ) where
+    pub introduced-itself : id ≡ p .number → reaction x ≡ unchanged p → reaction x ≡ introduced p id
+    unfolding introduced
+    introduced-itself e h = h ∙ rw (eq-eqb id (p .number) e)
 
-  pub introduced-other : (q : ℕ) (d : Side) (n : Neighbour) → (q ≡ p .number → ⊥) → d ≡ sideOf (p .number) q → n ≡ neighbour d p → reaction x ≡ meet d p q n
-      → reaction x ≡ introduced p q
-  unfolding introduced
-  introduced-other q d n h e f g = g ∙ rw (f, e, ne-eqb q (p .number) h)
+    pub introduced-right : (id ≡ p .number → ⊥) → p .number < id → reaction x ≡ onSide Right p id (variable Right (p .right)) → reaction x ≡ introduced p id
+    unfolding introduced
+    introduced-right i k h = h ∙ rw (ne-eqb id (p .number) i, lt-ltb (p .number) id k)
+
+    pub introduced-left : (id ≡ p .number → ⊥) → id ≤ p .number → reaction x ≡ onSide Left p id (variable Left (p .left)) → reaction x ≡ introduced p id
+    unfolding introduced
+    introduced-left i k h = h ∙ rw (ne-eqb id (p .number) i, le-ltb (p .number) id k)
 
   pub removed-obeyed : (d : Side) (n : Neighbour) (b : Bool) → b ≡ obeys d p → b ≡ true → n ≡ neighbour d p → reaction x ≡ dropNeighbour d p n → reaction x ≡ removed p d
   unfolding removed
@@ -139,7 +176,7 @@ module _ (x : Reacted) (p : declared.Station) where
   module _ (c : Content) where
     pub received-introduction : (q : ℕ) → c ≡ Introduction q → reaction x ≡ introduced p q → reaction x ≡ received p c
     unfolding received
-    received-introduction q e h = rw e h
+    received-introduction q e h = rw e (h ∙ order-agrees p q)
 
     pub received-left : c ≡ RemoveLeft → reaction x ≡ removed p Left → reaction x ≡ received p c
     unfolding received

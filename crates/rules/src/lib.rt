@@ -1,4 +1,5 @@
-// What one station does in a step (document 01, "What a step does at station p"). Left and right are one function over a side.
+// What one station does in a step (document 01, "What a step does at station p"), with an introduction in the order of the proof of lemma 3 of
+// source 000. Left and right are one function over a side.
 use line::Action;
 use line::Content;
 use line::Leave;
@@ -12,9 +13,12 @@ ghost use mathlib.Core.Bool.{false};
 ghost use mathlib.Core.List.{List};
 ghost use Rattle.line.specs.declared.Leave.{Leave};
 ghost use Rattle.line.specs.declared.Message.{Message};
+ghost use Rattle.line.specs.declared.Side.{Side};
 ghost use Rattle.line.specs.Message as message;
 ghost use Rattle.line.specs.Node as node;
 ghost use Rattle.line.specs.Act as act;
+ghost use Rattle.line.specs.Report.{process, Intro, mail};
+ghost use Rattle.delivery.specs.Lemma3 as lemma3;
 ghost use Rattle.rules.specs.Decided.{sent, bothSent, reaction, isFound, Decides};
 
 // Nothing, or one message to one station.
@@ -56,12 +60,6 @@ fn opposite(side: Side) -> Side
         Side::Left => Side::Right,
         Side::Right => Side::Left,
     }
-}
-
-fn side_of(p: u32, q: u32) -> Side
-    ensures { λ r. ⌜ r ≡ node.sideOf p q ⌝ }
-{
-    if p < q { Side::Right } else { Side::Left }
 }
 
 fn neighbour(side: Side, s: Station) -> Neighbour
@@ -156,41 +154,74 @@ fn unchanged(p: Station) -> Reacted
     }
 }
 
-// An introduction of q, who lies on this side of p, where the neighbour is n.
-fn meet(side: Side, p: Station, q: u32, n: Neighbour) -> Reacted
-    ensures { λ r. ⌜ reaction r ≡ act.meet side p q n ⌝ }
+// Whether id < right or, on the left, left < id, where n is that neighbour. With none it is so, since right is then +∞, and left −∞.
+fn is_below(side: Side, id: u32, n: Neighbour) -> bool
+    ensures { λ r. ⌜ r ≡ lemma3.below side id (lemma3.variable side n) ⌝ }
 {
     match n {
-        Neighbour::None => Reacted {
-            station: with_neighbour(side, Neighbour::Station(q), p),
-            sending: Sending::Nothing,
-        },
-        Neighbour::Station(r) => {
-            if side.beyond(q, r) {
-                return Reacted {
-                    station: with_neighbour(side, Neighbour::Station(q), p),
-                    sending: Sending::To(q, introduction(r)),
-                };
-            }
-            if q == r {
-                return unchanged(p);
-            }
-            Reacted {
-                station: p,
-                sending: Sending::To(r, introduction(q)),
-            }
-        }
+        Neighbour::None => true,
+        Neighbour::Station(q) => side.beyond(id, q),
     }
 }
 
-fn introduced(p: Station, q: u32) -> Reacted
-    ensures { λ r. ⌜ reaction r ≡ act.introduced p q ⌝ }
+// Whether id is the neighbour n, on either side.
+fn is_equal(id: u32, n: Neighbour) -> bool
+    ensures { λ r. ⌜ ((d : Side) → r ≡ lemma3.equal id (lemma3.variable d n)) ⌝ }
 {
-    if q == p.number {
+    match n {
+        Neighbour::None => false,
+        Neighbour::Station(q) => id == q,
+    }
+}
+
+// An introduction of the neighbour n, where there is one, goes to id.
+fn introduce_to(id: u32, n: Neighbour) -> Sending
+    ensures { λ r. ⌜ ((d : Side) → sent r ≡ mail (Intro (lemma3.variable d n)) (process id)) ⌝ }
+{
+    match n {
+        Neighbour::None => Sending::Nothing,
+        Neighbour::Station(q) => Sending::To(id, introduction(q)),
+    }
+}
+
+// id lies on this side of p, where the neighbour is n. The words are those of the right; "the case of id < p is similar".
+fn introduced_on(side: Side, p: Station, id: u32, n: Neighbour) -> Reacted
+    ensures { λ r. ⌜ reaction r ≡ lemma3.onSide side p id (lemma3.variable side n) ⌝ }
+{
+    // "If p < id < right, introduce sets right = id", and "sends message intro(q) to id", where q was right.
+    if is_below(side, id, n) {
+        return Reacted {
+            station: with_neighbour(side, Neighbour::Station(id), p),
+            sending: introduce_to(id, n),
+        };
+    }
+    // "If id = right, action introduce removes the message and does no further operations."
+    if is_equal(id, n) {
         return unchanged(p);
     }
-    let side = side_of(p.number, q);
-    meet(side, p, q, neighbour(side, p))
+    // "If id > right, action introduce forwards id to right".
+    Reacted {
+        station: p,
+        sending: send_to(n, introduction(id)),
+    }
+}
+
+// An introduction of id, in the order of the proof of lemma 3 of source 000 (document 02, T-06).
+fn introduced(p: Station, id: u32) -> Reacted
+    ensures { λ r. ⌜ reaction r ≡ lemma3.introduced p id ⌝ }
+{
+    // "If id = p"
+    if id == p.number {
+        return unchanged(p);
+    }
+    // "We now consider p < id."
+    if p.number < id {
+        let right = p.right;
+        return introduced_on(Side::Right, p, id, right);
+    }
+    // "The case of id < p is similar."
+    let left = p.left;
+    introduced_on(Side::Left, p, id, left)
 }
 
 // The neighbour n on this side is dropped, with an introduction of p to it.
@@ -226,6 +257,8 @@ fn removed(p: Station, side: Side) -> Reacted
     unchanged(p)
 }
 
+// The rules of document 01. An introduction is handled in the report's order, which says the same of every station and number (`OrderAgrees` of
+// crate `delivery`).
 fn received(p: Station, c: Content) -> Reacted
     ensures { λ r. ⌜ reaction r ≡ act.received p c ⌝ }
 {

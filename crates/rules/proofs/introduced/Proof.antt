@@ -1,5 +1,5 @@
--- q is the station itself, or lies on a side of it.
-use Rattle.rules.proofs.Ways.{introduced-itself, introduced-other}
+-- id is the station itself, or lies on the right of it, or on the left.
+use Rattle.rules.proofs.Ways.{introduced-itself, introduced-right, introduced-left}
 use borrow.Author.Needs.{needs}
 use Rattle.rules.proofs.introduced.Statement.{statement}
 use Rattle.rules.proofs.introduced.Tie as tie
@@ -11,6 +11,6 @@ introduced-spec =
     (λ c κs. search needs)
     (λ c. search introduced-itself)
     (λ c κs. search needs)
+    (λ c. search introduced-right)
     (λ c κs. search needs)
-    (λ c κs. search needs)
-    (λ c. search introduced-other))
+    (λ c. search introduced-left))
