@@ -25,13 +25,7 @@ pub fn show(case: &Case) {
         case.room
     );
     if let Ok(table) = model::read_table(&case.table) {
-        let before = model::Ran {
-            answer: 0,
-            reason: None,
-            done: 0,
-            table: Some(table),
-        };
-        print!("the table:\n{}", model::listing(&before));
+        show_table(table);
     }
     for step in case.steps.chunks_exact(STEP).take(model::MOST_STEPS) {
         match model::read_step(step) {
@@ -44,21 +38,37 @@ pub fn show(case: &Case) {
     let mut room = Lent::room(case.room, 0, false);
     let table = Lent::copy(&case.table, 0, false);
     let ran = archive::run(&table, &Lent::copy(&case.steps, 0, false), &mut room);
-    println!("the archive:\n{ran:?}");
-    let length = BLOCK * ran.stations as usize;
+    show_ran(ran, &room);
+    allowed::show(&table, &case.table);
+}
+
+/// Prints a table over which a run is to go.
+pub fn show_table(table: model::Table) {
+    print!("the table:\n{}", model::listing(&ran(0, 0, table)));
+}
+
+/// A run with these numbers, with no reason, that writes this table.
+pub fn ran(answer: u32, done: usize, table: model::Table) -> model::Ran {
+    model::Ran {
+        answer,
+        reason: None,
+        done,
+        table: Some(table),
+    }
+}
+
+/// Prints the numbers of a run of the archive, and what it has written into the room.
+pub fn show_ran(given: archive::Ran, room: &Lent) {
+    println!("the archive:\n{given:?}");
+    let length = BLOCK * given.stations as usize;
     match room.bytes().get(..length).map(model::read_table) {
         Some(Ok(table)) => {
-            let written = model::Ran {
-                answer: ran.answer,
-                reason: None, // it stands in the numbers above
-                done: ran.done as usize,
-                table: Some(table),
-            };
+            // Its reason stands in the numbers above.
+            let written = ran(given.answer, given.done as usize, table);
             print!("{}", model::listing(&written));
         }
         _ => println!("what it wrote is no table"),
     }
-    allowed::show(&table, &case.table);
 }
 
 /// Compares the archive with the model on every answer, count and byte; an error says where they differ.
@@ -106,7 +116,8 @@ pub fn compare(random: &mut Random, case: &Case, tally: &mut Tally) -> Result<()
     Ok(())
 }
 
-fn same_numbers(ran: archive::Ran, wanted: &model::Ran) -> Result<(), String> {
+/// The numbers of a run.
+pub fn same_numbers(ran: archive::Ran, wanted: &model::Ran) -> Result<(), String> {
     let (reason, holder) = reasons::of_run(wanted.reason);
     let numbers = archive::Ran {
         answer: wanted.answer,
@@ -119,7 +130,7 @@ fn same_numbers(ran: archive::Ran, wanted: &model::Ran) -> Result<(), String> {
         return Ok(());
     }
     Err(format!(
-        "run: the archive gives {ran:?}, the model {numbers:?}"
+        "run: the archive gives {ran:?}, wanted is {numbers:?}"
     ))
 }
 

@@ -1,4 +1,4 @@
-//! Counts with their names: what was met of one function, and what should have been met but never was.
+//! Counts with their names: what was met of one function, and what should have been met but never was; and what was compared.
 
 pub trait Counts {
     /// What is counted, in a word or two.
@@ -21,5 +21,13 @@ pub trait Counts {
         for (name, count) in self.named() {
             println!("{count:>10}  {name}");
         }
+    }
+}
+
+/// Comparisons by name: how often each was made, and how often it differed.
+pub fn print_compared(title: &str, names: &[&str], made: &[u64], different: &[u64]) {
+    println!("{title}:");
+    for ((name, made), different) in names.iter().zip(made).zip(different) {
+        println!("{made:>10}  {name}, {different} with a difference");
     }
 }

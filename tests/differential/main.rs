@@ -1,8 +1,9 @@
-//! Compares the archive, through its C interface, with the model of tests/model on random tables and step lists.
+//! Compares the archive, through its C interface, with the model of tests/model on random tables and step lists. Before these, and not in a
+//! replay, every delivery of an introduction on five stations is compared with the proof of lemma 3 of the report (lemma3.rs).
 //!
 //! `--seed N` the seed (else taken from the clock), `--cases N` how many cases, `--seconds N` how long, with progress on the
 //! screen, `--case K` only case K of the seed, with both results shown. The last line is `N passed, M failed`, counting what is compared
-//! over all cases (tally.rs) and not the cases.
+//! over all cases (tally.rs) and not the cases, and the eleven kinds of delivery.
 #![deny(warnings)]
 
 mod allowed;
@@ -13,6 +14,7 @@ mod counts;
 mod crowded;
 mod joined;
 mod leaving;
+mod lemma3;
 mod lining;
 mod random;
 mod reasons;
@@ -82,6 +84,10 @@ fn main() -> ExitCode {
     };
     let seed = options.seed;
     println!("seed {seed}");
+    let introductions = match options.only {
+        Some(_) => (0, 0),
+        None => lemma3::compare(),
+    };
     std::panic::set_hook(Box::new(move |what| {
         let number = AT_HAND.load(Ordering::Relaxed);
         eprintln!("stopped at seed {seed}, case {number}: {what}");
@@ -93,7 +99,21 @@ fn main() -> ExitCode {
         None => many(&options, started, &mut tally),
     };
     println!("{:.1} s, seed {seed}", started.elapsed().as_secs_f64());
+    let (passed, failed) = verdict(&tally, tried, introductions);
+    println!("{tried} random cases compared, {different} with a difference");
+    println!("{passed} passed, {failed} failed");
+    if failed == 0 && different == 0 && tried > 0 {
+        ExitCode::SUCCESS
+    } else {
+        ExitCode::FAILURE
+    }
+}
+
+/// What passed and what failed, these two of the introductions included.
+fn verdict(tally: &Tally, tried: u64, introductions: (u64, u64)) -> (u64, u64) {
     let (mut passed, mut failed) = tally.verdict();
+    passed += introductions.0;
+    failed += introductions.1;
     if tried >= ENOUGH {
         let missing = tally.missing();
         for what in &missing {
@@ -102,13 +122,7 @@ fn main() -> ExitCode {
         passed += u64::from(missing.is_empty());
         failed += u64::from(!missing.is_empty());
     }
-    println!("{tried} random cases compared, {different} with a difference");
-    println!("{passed} passed, {failed} failed");
-    if failed == 0 && different == 0 && tried > 0 {
-        ExitCode::SUCCESS
-    } else {
-        ExitCode::FAILURE
-    }
+    (passed, failed)
 }
 
 /// One case alone, with both results shown: how many were tried and how many differed.

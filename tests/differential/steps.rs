@@ -1,5 +1,7 @@
 //! Step lists: mostly done, refused in a wished way, or any bytes.
 
+use std::ops::Range;
+
 use model::Action::{Deliver, Exit, Timeout};
 use model::Message::{Introduction, RemoveLeft, RemoveRight};
 use model::{Effect, Message, STEP, Step, Table, apply, effect, nidec, write_step};
@@ -38,6 +40,9 @@ pub const RULES: [&str; 29] = [
     "exit, right only",
     "exit, both",
 ];
+
+/// The places in RULES of a delivery of an introduction.
+pub const INTRODUCTIONS: Range<usize> = 8..17;
 
 /// The place in RULES of a step at a station that is present.
 pub fn rule(table: &Table, step: Step) -> usize {

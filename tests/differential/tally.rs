@@ -5,7 +5,7 @@ use model::{Action, Ran, STEP, read_step};
 use crate::allowed::Lists;
 use crate::archive::Viewed;
 use crate::cases::{Case, KINDS};
-use crate::counts::Counts;
+use crate::counts::{Counts, print_compared};
 use crate::leaving::Leaves;
 use crate::lining::Lines;
 use crate::roll_call::RollCalls;
@@ -200,10 +200,7 @@ impl Tally {
     }
 
     pub fn print(&self) {
-        println!("compared:");
-        for ((name, made), different) in COMPARISONS.iter().zip(self.made).zip(self.different) {
-            println!("{made:>10}  {name}, {different} with a difference");
-        }
+        print_compared("compared", &COMPARISONS, &self.made, &self.different);
         println!("cases by kind:");
         for (name, count) in KINDS.iter().zip(&self.kinds) {
             println!("{count:>10}  {name}");

@@ -2,7 +2,8 @@
 //!
 //! It was written from these papers, without the crates, and is built differently on purpose: a table is a map from station numbers to
 //! stations, a bag is a map from messages to the number of their copies, and the bytes are dealt with at the two ends only.
-//! The comments name the section of document 01, or the request, that each part follows.
+//! The comments name the section of document 01, or the request, that each part follows. The delivery of an introduction is there once more,
+//! as the report has it (lemma3.rs).
 #![deny(warnings)]
 
 mod allowed;
@@ -11,6 +12,7 @@ mod bytes;
 mod first_steps;
 #[cfg(test)]
 mod in_line;
+mod lemma3;
 mod listing;
 #[cfg(test)]
 mod reasons;
@@ -27,6 +29,7 @@ use std::collections::BTreeMap;
 
 pub use allowed::{allowed, fill};
 pub use bytes::{read_step, read_table, write_step, write_table};
+pub use lemma3::introduce_to;
 pub use listing::{listing, program};
 pub use roll_call::{MOST_QUESTIONS, Mentions, mentions, roll_call};
 pub use rules::{Effect, Refusal, apply, copies, effect, held, nidec};

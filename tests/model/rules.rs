@@ -153,7 +153,7 @@ fn timeout(p: u32, station: &Station, sent: &mut Vec<(u32, Message)>) {
 
 /// "Deliver introduction of q", its copy being gone. "The left side is the mirror image": the neighbour on q's side is the one
 /// that counts, and q may be nearer to p than it, be it, or be farther.
-fn introduction(p: u32, q: u32, station: &mut Station, sent: &mut Vec<(u32, Message)>) {
+pub(crate) fn introduction(p: u32, q: u32, station: &mut Station, sent: &mut Vec<(u32, Message)>) {
     if q == p {
         return;
     }
