@@ -15,8 +15,8 @@ use Rattle.line.specs.Node.{Node, Line, number, beyond, sideOf, neighbour}
 use Rattle.line.specs.Act.{Reaction, unchanged, meet, received, kept, act}
 use Rattle.line.specs.Act as rules
 use Rattle.line.specs.Step.{find, commit, step}
-use Rattle.line.specs.Report.{less, mail, leftId, rightId}
-use Rattle.delivery.specs.Lemma3.{variable, below, equal, onSide, introduced, delivery}
+use Rattle.line.specs.Report.{less, mail, leftId, rightId, variable}
+use Rattle.delivery.specs.Lemma3.{below, equal, onSide, introduced, delivery}
 use Rattle.delivery.specs.Claims.{OrderAgrees, StepAgrees}
 
 -- one side, right or left

@@ -15,8 +15,8 @@ use Rattle.line.specs.Node.{Line, neighbour, withNeighbour}
 use Rattle.line.specs.Act.{Reaction, unchanged}
 use Rattle.line.specs.Act as act
 use Rattle.line.specs.Step.{step}
-use Rattle.line.specs.Report.{Id, process, Intro, less, mail}
-use Rattle.delivery.specs.Lemma3.{variable, introduced, delivery}
+use Rattle.line.specs.Report.{Id, process, Intro, less, mail, variable}
+use Rattle.delivery.specs.Lemma3.{introduced, delivery}
 use Rattle.delivery.specs.Examples.{Example, Shows, examples}
 
 -- 1. Of every station, whatever its neighbours, and every number: the cases in the order of lemma 3's proof are the step rules of document 01.

@@ -1,10 +1,9 @@
 -- What station p does with an introduction of id: the cases of the proof of lemma 3 of source 000, in the order of its text. Quoted is what
 -- that text says of action introduce, with its letters: p is the station's number, id the number that the message carries, right and left the
--- neighbours.
+-- neighbours, as Figure 1 has them: "left : process ids less than p, −∞ if undefined", "right : process ids greater than p, +∞ if undefined".
 use Prim.Native.Nat.{ℕ}
 use mathlib.Core.Bool.{Bool, false, cond}
 use lib.Dec.{eqb, ltb}
-use Rattle.line.specs.declared.Neighbour.{Neighbour}
 use Rattle.line.specs.declared.Neighbour.the-variants.{Station}
 use Rattle.line.specs.declared.Station as declared
 use Rattle.line.specs.declared.Side.{Side}
@@ -15,13 +14,7 @@ use Rattle.line.specs.Message.{introduction, holds, remove}
 use Rattle.line.specs.Node.{Line, number, withNeighbour}
 use Rattle.line.specs.Act.{Reaction, unchanged, kept}
 use Rattle.line.specs.Step.{find, commit}
-use Rattle.line.specs.Report.{Id, −∞, +∞, process, Intro, less, mail, leftId, rightId}
-
--- A neighbour as the report's variable: "left : process ids less than p, −∞ if undefined", "right : process ids greater than p, +∞ if undefined"
--- (Figure 1).
-abbrev pub variable : Side → Neighbour → Id
-variable Right n = rightId n
-variable Left n = leftId n
+use Rattle.line.specs.Report.{Id, −∞, +∞, process, Intro, less, mail, variable}
 
 -- id is below q as seen from the right: id < q there, and q < id on the left. Where there is no neighbour it is, since q is then +∞, or −∞.
 unfoldable pub below : Side → ℕ → Id → Bool

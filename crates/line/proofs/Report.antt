@@ -31,7 +31,7 @@ use Rattle.line.specs.Accepted.{Sided, Accepted}
 use Rattle.line.specs.Act.{Send, sendTo, notice, timeout, received, introduceBoth, Effect, kept, act}
 use Rattle.line.specs.Step.{find, change, replace, withMessage, sendAll, hasRoom, commit, step}
 use Rattle.line.specs.Report as report
-use Rattle.line.specs.Report.{process, isProcess, remleft, remright, Intro, Req, mail, Process, p, left, right, intro, req, not-leaving, defined, _and_, _⨾_, if_then_, if_then_else_, send_to_, exited, exit, handle, command, Guard, leftId, rightId, processOf, nodeOf, stateAfter, Fires}
+use Rattle.line.specs.Report.{process, isProcess, remleft, remright, Intro, Req, mail, Process, p, left, right, intro, req, not-leaving, defined, _and_, _⨾_, if_then_, if_then_else_, send_to_, exited, exit, handle, command, Guard, leftId, rightId, variable, processOf, nodeOf, stateAfter, Fires}
 use Rattle.line.specs.Claims.{WithinCapacity, ReportAgrees, Apart}
 use Rattle.lists.proofs.Lists.{fails, true-all}
 use Rattle.line.proofs.Answers.{done-inj, refused-done, bound, require-true, require-false, required, may-leave, unheld}
@@ -41,7 +41,7 @@ use Rattle.line.proofs.LeaveTest.{leave-tested}
 use Rattle.line.proofs.Whole.{Room, step-result}
 use Rattle.line.proofs.Causes.{refused-exactly}
 use Rattle.line.proofs.Changes.{found, member-found, takes-it, change-same, change-other, keeps-other, mem-without, receive-number, true-room}
-use Rattle.line.proofs.ReportLocal.{Matches, start, request-matches, introduce-matches, id-back, idOn}
+use Rattle.line.proofs.ReportLocal.{Matches, start, request-matches, introduce-matches, id-back}
 
 -- Sends to two stations may change places.
 change-swap : (a c : ℕ) (f g : Node → Node) → a ≢ c → ((s : Node) → number (f s) ≡ number s) → ((s : Node) → number (g s) ≡ number s)
@@ -67,7 +67,7 @@ send-swap (Station x) (Station y) c e h line =
     map-swap (change y (withMessage e)) (change x (withMessage c)) (change-swap x y (withMessage c) (withMessage e) (h x y refl refl) (receive-number c) (receive-number e)) line
 
 -- What the figure sends to a neighbour.
-intro-to : (d : Side) (n : ℕ) (k : Neighbour) → mail (Intro (process n)) (idOn d k) ≡ sendTo k (introduction n)
+pub intro-to : (d : Side) (n : ℕ) (k : Neighbour) → mail (Intro (process n)) (variable d k) ≡ sendTo k (introduction n)
 unfolding mail leftId rightId sendTo
 intro-to Left n None = refl
 intro-to Left n (Station r) = refl

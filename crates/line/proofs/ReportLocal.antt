@@ -20,7 +20,7 @@ use Rattle.line.specs.Message.{introduction, removal}
 use Rattle.line.specs.Node.{Beyond, opposite, beyond, sideOf, withNeighbour}
 use Rattle.line.specs.Accepted.{Sided}
 use Rattle.line.specs.Act.{Send, send as one, sendTo, Reaction, unchanged, meet, introduced, dropNeighbour, removed, received}
-use Rattle.line.specs.Report.{Command, Id, −∞, +∞, process, less, remleft, Intro, mail, Process, p, left, right, always, intro, not-leaving, _below_, _and_, _⨾_, if_then_, send_to_, left:=_, right:=_, exited, introduce, request, handle, leftId, rightId, neighbourOf, nodeOf}
+use Rattle.line.specs.Report.{Command, Id, −∞, +∞, process, less, remleft, Intro, mail, Process, p, left, right, always, intro, not-leaving, _below_, _and_, _⨾_, if_then_, send_to_, left:=_, right:=_, exited, introduce, request, handle, leftId, rightId, variable, neighbourOf, nodeOf}
 use Rattle.line.proofs.Sides.{node, sideOf-beyond, beyond-true, beyond-other}
 
 -- A process is seen from one side: X is its variable there, Y the other one.
@@ -32,21 +32,17 @@ abbrev station : Side → ℕ → Marks → Neighbour → Neighbour → declared
 station Left n g k o = record { number = n; left = k; right = o; marks = g }
 station Right n g k o = record { number = n; left = o; right = k; marks = g }
 
-abbrev pub idOn : Side → Neighbour → Id
-idOn Left k = leftId k
-idOn Right k = rightId k
-
-pub id-back : (d : Side) (k : Neighbour) → neighbourOf (idOn d k) ≡ k
+pub id-back : (d : Side) (k : Neighbour) → neighbourOf (variable d k) ≡ k
 unfolding neighbourOf leftId rightId
 id-back Left None = refl
 id-back Left (Station n) = refl
 id-back Right None = refl
 id-back Right (Station n) = refl
 
-id-station : (d : Side) (n : ℕ) → idOn d (Station n) ≡ process n
+pub variable-station : (d : Side) (n : ℕ) → variable d (Station n) ≡ process n
 unfolding leftId rightId
-id-station Left n = refl
-id-station Right n = refl
+variable-station Left n = refl
+variable-station Right n = refl
 
 neighbour-of : (n : ℕ) → neighbourOf (process n) ≡ Station n
 unfolding neighbourOf
@@ -129,7 +125,7 @@ module _ (n q : ℕ) where
   idle-near Left X h = rw (le-ltb q n h) (and-false (less X (process q)))
   idle-near Right X h = rw (le-ltb n q h)
 
-  idle-far : (d : Side) (k : Neighbour) → NotBeyond d n q → ((r : ℕ) → k ≡ Station r → Beyond d n r) → far q d (idOn d k) ≡ false
+  idle-far : (d : Side) (k : Neighbour) → NotBeyond d n q → ((r : ℕ) → k ≡ Station r → Beyond d n r) → far q d (variable d k) ≡ false
   unfolding far less leftId rightId
   idle-far Left None h s = refl
   idle-far Left (Station r) h s = le-ltb q r (omega (arith, s r refl))
@@ -137,7 +133,7 @@ module _ (n q : ℕ) where
   idle-far Right (Station r) h s = le-ltb r q (omega (arith, s r refl))
 
   -- on the side on which q lies
-  no-neighbour : (d : Side) → Beyond d n q → (near q d n (idOn d None) ≡ true) × (far q d (idOn d None) ≡ false) × (mail (Intro (idOn d None)) (process q) ≡ [])
+  no-neighbour : (d : Side) → Beyond d n q → (near q d n (variable d None) ≡ true) × (far q d (variable d None) ≡ false) × (mail (Intro (variable d None)) (process q) ≡ [])
   unfolding near far less leftId rightId mail
   no-neighbour Left h = (lt-ltb q n h, refl, refl)
   no-neighbour Right h = (rw (lt-ltb n q h), refl, refl)
@@ -165,8 +161,8 @@ module _ (n q : ℕ) where
 
   -- the other side stays idle, so the figure does what one side does
   works : (d : Side) (g : Marks) (b : List Message) (X Z : Id) (o : Neighbour) (l : List Send) → NotBeyond (opposite d) n q → ((r : ℕ) → o ≡ Station r → Beyond (opposite d) n r)
-      → half q d (facing d n g b X (idOn (opposite d) o) []) ≡ facing d n g b Z (idOn (opposite d) o) l
-      → introduce (always (process q)) (facing d n g b X (idOn (opposite d) o) []) ≡ facing d n g b Z (idOn (opposite d) o) l
+      → half q d (facing d n g b X (variable (opposite d) o) []) ≡ facing d n g b Z (variable (opposite d) o) l
+      → introduce (always (process q)) (facing d n g b X (variable (opposite d) o) []) ≡ facing d n g b Z (variable (opposite d) o) l
   works Left g b X Z o l h s e =
       halves q (facing Left n g b X (rightId o) []) ∙ ap (half q Right) e
       ∙ half-idle q n g b (rightId o) Z Right l (idle-near Right (rightId o) h) (idle-far Right o h s)
@@ -180,35 +176,35 @@ module _ (n q : ℕ) where
 -- Station n handles an introduction of q: k is its neighbour on side d, o the other one.
 module _ (n : ℕ) (g : Marks) (b : List Message) (q : ℕ) (d : Side) (o : Neighbour) (s : (r : ℕ) → o ≡ Station r → Beyond (opposite d) n r) where
   Handled : Neighbour → Type 0
-  Handled k = Matches b (introduce (always (process q)) (facing d n g b (idOn d k) (idOn (opposite d) o) [])) (introduced (station d n g k o) q)
+  Handled k = Matches b (introduce (always (process q)) (facing d n g b (variable d k) (variable (opposite d) o) [])) (introduced (station d n g k o) q)
 
   goes : (k : Neighbour) → Beyond d n q → Handled k
   unfolding Handled meet mail
   goes None h =
       let w = no-neighbour n q d h in
-      matches d n g b (process q) (idOn (opposite d) o) (Station q) o [] (neighbour-of q) (id-back (opposite d) o)
-      (works n q d g b (idOn d None) (process q) o [] (beyond-not n q d h) s (half-near q n g b (idOn d None) (idOn (opposite d) o) d (w .0) (w .1) ∙ rw (w .2)))
+      matches d n g b (process q) (variable (opposite d) o) (Station q) o [] (neighbour-of q) (id-back (opposite d) o)
+      (works n q d g b (variable d None) (process q) o [] (beyond-not n q d h) s (half-near q n g b (variable d None) (variable (opposite d) o) d (w .0) (w .1) ∙ rw (w .2)))
       (rule n q d g None o h ∙ rw (with-neighbour n q d g None o))
-  goes (Station r) h = rw (id-station d r) (go (beyond d q r) refl (eqb q r) refl)
+  goes (Station r) h = rw (variable-station d r) (go (beyond d q r) refl (eqb q r) refl)
     where
       go : (t : Bool) → beyond d q r ≡ t → (u : Bool) → eqb q r ≡ u
-          → Matches b (introduce (always (process q)) (facing d n g b (process r) (idOn (opposite d) o) [])) (introduced (station d n g (Station r) o) q)
+          → Matches b (introduce (always (process q)) (facing d n g b (process r) (variable (opposite d) o) [])) (introduced (station d n g (Station r) o) q)
       go true e u f =
           let w = far-is n q d r (λ z. beyond-other d q r (beyond-true d q r e) (sym z)) ∙ ap not e in
-          matches d n g b (process q) (idOn (opposite d) o) (Station q) o (one q (introduction r)) (neighbour-of q) (id-back (opposite d) o)
+          matches d n g b (process q) (variable (opposite d) o) (Station q) o (one q (introduction r)) (neighbour-of q) (id-back (opposite d) o)
           (works n q d g b (process r) (process q) o (one q (introduction r)) (beyond-not n q d h) s
-          (half-near q n g b (process r) (idOn (opposite d) o) d (near-is n q d r h ∙ e) w))
+          (half-near q n g b (process r) (variable (opposite d) o) d (near-is n q d r h ∙ e) w))
           (rule n q d g (Station r) o h ∙ rw (e, with-neighbour n q d g (Station r) o))
       go false e true f =
           let w = subst (λ (k : ℕ). far q d (process k) ≡ false) (eqb-true q r f) (far-self q d) in
-          matches d n g b (process r) (idOn (opposite d) o) (Station r) o [] (neighbour-of r) (id-back (opposite d) o)
-          (works n q d g b (process r) (process r) o [] (beyond-not n q d h) s (half-idle q n g b (process r) (idOn (opposite d) o) d [] (near-is n q d r h ∙ e) w))
+          matches d n g b (process r) (variable (opposite d) o) (Station r) o [] (neighbour-of r) (id-back (opposite d) o)
+          (works n q d g b (process r) (process r) o [] (beyond-not n q d h) s (half-idle q n g b (process r) (variable (opposite d) o) d [] (near-is n q d r h ∙ e) w))
           (rule n q d g (Station r) o h ∙ rw (e, f))
       go false e false f =
           let w = far-is n q d r (eqb-false q r f) ∙ ap not e in
-          matches d n g b (process r) (idOn (opposite d) o) (Station r) o (one r (introduction q)) (neighbour-of r) (id-back (opposite d) o)
+          matches d n g b (process r) (variable (opposite d) o) (Station r) o (one r (introduction q)) (neighbour-of r) (id-back (opposite d) o)
           (works n q d g b (process r) (process r) o (one r (introduction q)) (beyond-not n q d h) s
-          (half-far q n g b (process r) (idOn (opposite d) o) d (near-is n q d r h ∙ e) w))
+          (half-far q n g b (process r) (variable (opposite d) o) d (near-is n q d r h ∙ e) w))
           (rule n q d g (Station r) o h ∙ rw (e, f))
 
 -- The same for the messages that ask for a removal: the neighbour on side d is dropped.
@@ -217,7 +213,7 @@ drop Left = send intro p to left ⨾ left:= always −∞
 drop Right = send intro p to right ⨾ right:= always +∞
 
 module _ (n : ℕ) (g : Marks) (b : List Message) where
-  drops : (d : Side) (k o : Neighbour) → drop d (facing d n g b (idOn d k) (idOn (opposite d) o) []) ≡ facing d n g b (idOn d None) (idOn (opposite d) o) (sendTo k (introduction n))
+  drops : (d : Side) (k o : Neighbour) → drop d (facing d n g b (variable d k) (variable (opposite d) o) []) ≡ facing d n g b (variable d None) (variable (opposite d) o) (sendTo k (introduction n))
   unfolding drop _⨾_ send_to_ left:=_ right:=_ always intro p left right mail leftId rightId sendTo
   drops Left None o = refl
   drops Left (Station r) o = refl
@@ -231,9 +227,9 @@ module _ (n : ℕ) (g : Marks) (b : List Message) where
   drop-rule Right None o = refl
   drop-rule Right (Station r) o = refl
 
-  dropped : (d : Side) (k o : Neighbour) → Matches b (drop d (facing d n g b (idOn d k) (idOn (opposite d) o) [])) (dropNeighbour d (station d n g k o) k)
+  dropped : (d : Side) (k o : Neighbour) → Matches b (drop d (facing d n g b (variable d k) (variable (opposite d) o) [])) (dropNeighbour d (station d n g k o) k)
   dropped d k o =
-      matches d n g b (idOn d None) (idOn (opposite d) o) None o (sendTo k (introduction n)) (id-back d None) (id-back (opposite d) o) (drops d k o) (drop-rule d k o)
+      matches d n g b (variable d None) (variable (opposite d) o) None o (sendTo k (introduction n)) (id-back d None) (id-back (opposite d) o) (drops d k o) (drop-rule d k o)
 
 -- A process that handles a message: its variables are those of the station, and nothing is sent yet.
 unfoldable pub start : declared.Station → List Message → Process

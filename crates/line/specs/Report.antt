@@ -16,6 +16,7 @@ use Rattle.line.specs.declared.Content.{Content}
 use Rattle.line.specs.declared.Content.the-variants.{Introduction, RemoveLeft, RemoveRight}
 use Rattle.line.specs.declared.Message.{Message}
 use Rattle.line.specs.declared.Marks.{Marks}
+use Rattle.line.specs.declared.Side.{Side}
 use Rattle.line.specs.declared.Side.the-variants.{Left, Right}
 use Rattle.line.specs.declared.Action.{Action}
 use Rattle.line.specs.declared.Action.the-variants.{Timeout, Deliver, Exit}
@@ -199,6 +200,11 @@ leftId (Station n) = process n
 unfoldable pub rightId : Neighbour → Id
 rightId None = +∞
 rightId (Station n) = process n
+
+-- the variable of a side, right or left
+abbrev pub variable : Side → Neighbour → Id
+variable Right n = rightId n
+variable Left n = leftId n
 
 unfoldable pub neighbourOf : Id → Neighbour
 neighbourOf −∞ = None

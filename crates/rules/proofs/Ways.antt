@@ -26,9 +26,11 @@ use Rattle.line.specs.Answer.{refused, done, require, unlessHeld}
 use Rattle.line.specs.Message.{introduction, removal, holds, remove}
 use Rattle.line.specs.Node.{opposite, beyond, neighbour, withNeighbour}
 use Rattle.line.specs.Act.{Send, sendTo, notice, timeout, Reaction, unchanged, dropNeighbour, obeys, removed, received, introduceBoth, kept, act}
-use Rattle.line.specs.Report.{process, Intro, less, mail, leftId, rightId}
+use Rattle.line.specs.Report.{process, Intro, less, mail, leftId, rightId, variable}
+use Rattle.line.proofs.Report.{intro-to}
+use Rattle.line.proofs.ReportLocal.{variable-station}
 use Rattle.lists.proofs.Lists.{clash}
-use Rattle.delivery.specs.Lemma3.{variable, below, equal, onSide, introduced}
+use Rattle.delivery.specs.Lemma3.{below, equal, onSide, introduced}
 use Rattle.delivery.proofs.Agreement.{order-agrees}
 use Rattle.rules.specs.declared.Sending.{Sending}
 use Rattle.rules.specs.declared.Sending.the-variants.{Nothing, To}
@@ -87,10 +89,6 @@ on-each P l r Left = l
 on-each P l r Right = r
 
 -- An introduction of id beside a neighbour n, which the text takes for its variable.
-variable-station : (d : Side) (q : ℕ) → variable d (Station q) ≡ process q
-unfolding leftId rightId
-variable-station d q = on-each (λ d. variable d (Station q) ≡ process q) refl refl d
-
 module _ (id : ℕ) (n : Neighbour) (d : Side) where
   pub below-none : n ≡ None → true ≡ below d id (variable d n)
   unfolding below less leftId rightId
@@ -116,12 +114,6 @@ module _ (id : ℕ) (n : Neighbour) (d : Side) where
   unfolding mail
   one-introduced q m e f = rw (e, variable-station d q, f)
 
--- what a neighbour is sent, the variable is sent
-forwards : (id : ℕ) (n : Neighbour) (d : Side) → sendTo n (introduction id) ≡ mail (Intro (process id)) (variable d n)
-unfolding sendTo mail leftId rightId
-forwards id None d = on-each (λ d. sendTo None (introduction id) ≡ mail (Intro (process id)) (variable d None)) refl refl d
-forwards id (Station q) d = rw (variable-station d q)
-
 -- An introduction of id, who lies on side d of p, where the neighbour is n: below, equal and above; t is p afterwards.
 module _ (d : Side) (p : declared.Station) (id : ℕ) (n : Neighbour) (b : Bool) (f : b ≡ below d id (variable d n)) where
   pub on-below : (t : declared.Station) (x : Sending) → b ≡ true → t ≡ withNeighbour d (Station id) p → ((e : Side) → sent x ≡ mail (Intro (variable e n)) (process id))
@@ -137,7 +129,7 @@ module _ (d : Side) (p : declared.Station) (id : ℕ) (n : Neighbour) (b : Bool)
     pub on-above : (m : Message) (x : Sending) → b ≡ false → c ≡ false → m ≡ introduction id → sent x ≡ sendTo n m
         → reaction (record { station = p; sending = x }) ≡ onSide d p id (variable d n)
     unfolding onSide
-    on-above m x i k e g = ap (λ (l : List Send). record { station = p; sends = l }) (g ∙ ap (sendTo n) e ∙ forwards id n d) ∙ rw (← f, i, ← h d, k)
+    on-above m x i k e g = ap (λ (l : List Send). record { station = p; sends = l }) (g ∙ ap (sendTo n) e ∙ sym (intro-to d id n)) ∙ rw (← f, i, ← h d, k)
 
 -- The neighbour n on side d is dropped, or there is none.
 module _ (d : Side) (p : declared.Station) (n : Neighbour) where

@@ -17,7 +17,7 @@ ghost use Rattle.line.specs.declared.Side.{Side};
 ghost use Rattle.line.specs.Message as message;
 ghost use Rattle.line.specs.Node as node;
 ghost use Rattle.line.specs.Act as act;
-ghost use Rattle.line.specs.Report.{process, Intro, mail};
+ghost use Rattle.line.specs.Report.{process, Intro, mail, variable};
 ghost use Rattle.delivery.specs.Lemma3 as lemma3;
 ghost use Rattle.rules.specs.Decided.{sent, bothSent, reaction, isFound, Decides};
 
@@ -156,7 +156,7 @@ fn unchanged(p: Station) -> Reacted
 
 // Whether id < right or, on the left, left < id, where n is that neighbour. With none it is so, since right is then +∞, and left −∞.
 fn is_below(side: Side, id: u32, n: Neighbour) -> bool
-    ensures { λ r. ⌜ r ≡ lemma3.below side id (lemma3.variable side n) ⌝ }
+    ensures { λ r. ⌜ r ≡ lemma3.below side id (variable side n) ⌝ }
 {
     match n {
         Neighbour::None => true,
@@ -166,7 +166,7 @@ fn is_below(side: Side, id: u32, n: Neighbour) -> bool
 
 // Whether id is the neighbour n, on either side.
 fn is_equal(id: u32, n: Neighbour) -> bool
-    ensures { λ r. ⌜ ((d : Side) → r ≡ lemma3.equal id (lemma3.variable d n)) ⌝ }
+    ensures { λ r. ⌜ ((d : Side) → r ≡ lemma3.equal id (variable d n)) ⌝ }
 {
     match n {
         Neighbour::None => false,
@@ -176,7 +176,7 @@ fn is_equal(id: u32, n: Neighbour) -> bool
 
 // An introduction of the neighbour n, where there is one, goes to id.
 fn introduce_to(id: u32, n: Neighbour) -> Sending
-    ensures { λ r. ⌜ ((d : Side) → sent r ≡ mail (Intro (lemma3.variable d n)) (process id)) ⌝ }
+    ensures { λ r. ⌜ ((d : Side) → sent r ≡ mail (Intro (variable d n)) (process id)) ⌝ }
 {
     match n {
         Neighbour::None => Sending::Nothing,
@@ -186,7 +186,7 @@ fn introduce_to(id: u32, n: Neighbour) -> Sending
 
 // id lies on this side of p, where the neighbour is n. The words are those of the right; "the case of id < p is similar".
 fn introduced_on(side: Side, p: Station, id: u32, n: Neighbour) -> Reacted
-    ensures { λ r. ⌜ reaction r ≡ lemma3.onSide side p id (lemma3.variable side n) ⌝ }
+    ensures { λ r. ⌜ reaction r ≡ lemma3.onSide side p id (variable side n) ⌝ }
 {
     // "If p < id < right, introduce sets right = id", and "sends message intro(q) to id", where q was right.
     if is_below(side, id, n) {
