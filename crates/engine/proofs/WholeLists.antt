@@ -1,6 +1,6 @@
 -- Runs over whole step lists: what a run writes is the table of the line it leaves; so receivers of alike tables agree, the line is
 -- never cut, and what is written is accepted when it is read again.
-use Prim.Native.Nat.{ℕ, _*_, _%_}
+use Prim.Native.Nat.{ℕ, _*_, _%_, _≤_}
 use mathlib.Core.Path.{_≡_, refl, sym, ap, _∙_}
 use mathlib.Core.Logic.{_↔_}
 use mathlib.Core.Bool.{Bool, true, false, cond}
@@ -9,7 +9,7 @@ use native.Mathlib.Omega.{arith}
 use lib.Dec.{eqb}
 use lib.ListN.{length, drop}
 use lib.Seq.{take-at}
-use borrow.Author.Tests.{eqb-true, eq-eqb}
+use borrow.Author.Tests.{eqb-true, eq-eqb, le-leb}
 use Rattle.line.specs.declared.Answered.the-variants.{Ended}
 use Rattle.line.specs.Run as machine
 use Rattle.line.specs.Node.{Line, Present, Written, lower, withBagInOrder, inWrittenOrder}
@@ -39,7 +39,12 @@ table-fault t steps room h = go (eqb (faultOf t) 0) refl h
     go true e k = eqb-true (faultOf t) 0 e
     go false e k = k
 
--- and ends with the line that its steps leave
+-- and one over an accepted table begins, where the list and the room are as they must be
+pub begins : (t steps room : List ℕ) → faultOf t ≡ 0 → listHolds steps ≡ true → length t ≤ length room → faultBefore t steps room ≡ 0
+unfolding faultBefore roomHolds
+begins t steps room clean list fits = rw (clean, list, le-leb (length t) (length room) fits)
+
+-- a run that begins ends with the line that its steps leave
 pub accepted-outcome : (t steps room : List ℕ) → faultBefore t steps room ≡ 0 → outcome t steps room ≡ endedWith (runOf t steps) room
 unfolding outcome
 accepted-outcome t steps room h = rw (eq-eqb (faultBefore t steps room) 0 h) refl

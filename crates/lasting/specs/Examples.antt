@@ -22,28 +22,35 @@ pub record InLineExample : Type 0 where
   pub quiet : Bool
   pub staying : Bool
 
+-- in line where all three hold
+abbrev pub isLined : InLineExample → Bool
+isLined x = x .neighbours && (x .quiet && x .staying)
+
 -- The line is accepted, each condition holds or does not, and it is in line exactly where all three hold.
 pub record ShowsInLine (x : InLineExample) : Type 0 where
   pub accepts : accepted (x .line) ≡ true
   pub neighbours : Says (x .neighbours) (NeighboursInLine (x .line))
   pub quiet : Says (x .quiet) (Quiet (x .line))
   pub staying : Says (x .staying) (AllStay (x .line))
-  pub in-line : Says (x .neighbours && (x .quiet && x .staying)) (InLine (x .line))
+  pub in-line : Says (isLined x) (InLine (x .line))
+
+-- "Introductions may still wait": of a neighbour, of a station farther on, of the station itself, and in copies
+abbrev pub introductionsWait : InLineExample
+introductionsWait = record {
+  line =
+      staying 3 None (Station 5) (introduction 5 ∷ introduction 9 ∷ []) ∷
+      staying 5 (Station 3) (Station 9) (introduction 5 ∷ []) ∷
+      staying 9 (Station 5) None (introduction 3 ∷ introduction 3 ∷ []) ∷ [];
+  neighbours = true;
+  quiet = true;
+  staying = true;
+}
 
 unfoldable pub inLineExamples : List InLineExample
 inLineExamples =
     -- "The empty table is in line."
     record { line = []; neighbours = true; quiet = true; staying = true } ∷
-    -- "Introductions may still wait": of a neighbour, of a station farther on, of the station itself, and in copies
-    record {
-      line =
-          staying 3 None (Station 5) (introduction 5 ∷ introduction 9 ∷ []) ∷
-          staying 5 (Station 3) (Station 9) (introduction 5 ∷ []) ∷
-          staying 9 (Station 5) None (introduction 3 ∷ introduction 3 ∷ []) ∷ [];
-      neighbours = true;
-      quiet = true;
-      staying = true;
-    } ∷
+    introductionsWait ∷
     -- the neighbours alone: a left missing, a right missing, a station that its neighbours pass over
     record {
       line = staying 3 None (Station 5) [] ∷ staying 5 None (Station 9) [] ∷ staying 9 (Station 5) None [] ∷ [];

@@ -1,1 +1,1 @@
-// Laws only: lines in line and lines that are not, each for its cause, and why introductions may wait in a line in line (document 02, T-04).
+// Laws only: lines in line and lines that are not, each for its cause; what every step and run keeps of a line in line, and of a station that may leave (document 02, T-04 and T-07).

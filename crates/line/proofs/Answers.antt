@@ -8,8 +8,10 @@ use Rattle.line.specs.declared.Reason.{Reason}
 use Rattle.line.specs.declared.Leave.{Leave}
 use Rattle.line.specs.declared.Leave.the-variants.{May, MayNot}
 use Rattle.line.specs.declared.Refusal.{Refusal}
-use Rattle.line.specs.declared.Refusal.the-variants.{Held}
-use Rattle.line.specs.Answer.{Answer, refused, done, isDone, _>>=_, require, unlessHeld}
+use Rattle.line.specs.declared.Refusal.the-variants.{Malformed, Absent, NotInBag, Staying, Held, Full}
+use Rattle.line.specs.declared.Ending.{Ending}
+use Rattle.line.specs.declared.Ending.the-variants.{Complete, Stopped}
+use Rattle.line.specs.Answer.{refusalNumber, endingNumber, Answer, refused, done, isDone, _>>=_, require, unlessHeld}
 use Rattle.lists.proofs.Lists.{clash}
 
 pub done-inj : {A : Type 0} {a b : A} → done a ≡ done b → a ≡ b
@@ -17,6 +19,20 @@ done-inj e = cc
 
 pub refused-done : {A C : Type 0} {r : Refusal} {a : A} → refused r ≡ done a → C
 refused-done e = absurd (let z : _≡_ {A = ℕ} 0 1 = cc in omega arith)
+
+-- no refusal has the number 0
+pub no-refusal : (r : Refusal) → refusalNumber r ≡ 0 → ⊥
+no-refusal Malformed e = omega arith
+no-refusal Absent e = omega arith
+no-refusal NotInBag e = omega arith
+no-refusal Staying e = omega arith
+no-refusal (Held why) e = omega arith
+no-refusal Full e = omega arith
+
+-- "Success is 0": a run with this number came to its end
+pub ending-zero : (e : Ending) → endingNumber e ≡ 0 → e ≡ Complete
+ending-zero Complete h = refl
+ending-zero (Stopped r) h = absurd (no-refusal r h)
 
 pub is-done : {A : Type 0} (x : Answer A) → isDone x ≡ true → (a : A) × (x ≡ done a)
 unfolding isDone

@@ -35,7 +35,7 @@ use Rattle.line.proofs.Answers.{done-inj, required, unheld}
 use Rattle.line.proofs.Messages.{introduction-inj, held-mem, GivenUp, gives-up}
 use Rattle.line.proofs.Chains.{forward, backward, equal}
 use Rattle.line.proofs.Sides.{station-inj, none-station, beyond-other, sideOf-beyond, changed-number, changed-marks, changed-neighbour, node, changed-links, links-changed, changed-sided}
-use Rattle.line.proofs.Sends.{sent-to}
+use Rattle.line.proofs.Sends.{sent-to, sent-message}
 
 -- the links that a list of sends makes, and those of a node with such a list
 abbrev pub Sent : List Send → ℕ → ℕ → Type 0
@@ -85,16 +85,11 @@ fair-one {P} r c p f = record {
   says = λ x y k. f y (ap (λ (z : Send). z .message) (List·Memᴰ·eq-of-singleton k));
 }
 
-sent-says : (k : Neighbour) (c : Message) {x y : ℕ} → Sent (sendTo k c) x y → introduction y ≡ c
-unfolding sendTo
-sent-says None c h = absurd (List·Memᴰ·not-nil h)
-sent-says (Station r) c h = ap (λ (z : Send). z .message) (List·Memᴰ·eq-of-singleton h)
-
 fair-two : {Q : ℕ → Type 0} (s : Node) {a b : Neighbour} → s .station .left ≡ a → s .station .right ≡ b → (c e : Message)
     → ((y : ℕ) → introduction y ≡ c → Q y) → ((y : ℕ) → introduction y ≡ e → Q y) → Fair (Linked s) Q (sendTo a c ++ sendTo b e)
 fair-two s {a} {b} p q c e f g = record {
   reaches = λ m h. ⊎-elim (λ k. by-neighbour Left (p ∙ sent-to a c k)) (λ k. by-neighbour Right (q ∙ sent-to b e k)) (List·Memᴰ·append-cases (sendTo a c) h);
-  says = λ x y h. ⊎-elim (λ k. f y (sent-says a c k)) (λ k. g y (sent-says b e k)) (List·Memᴰ·append-cases (sendTo a c) h);
+  says = λ x y h. ⊎-elim (λ k. f y (sent-message a c k)) (λ k. g y (sent-message b e k)) (List·Memᴰ·append-cases (sendTo a c) h);
 }
 
 sent-one : {r q : ℕ} → Sent (send r (introduction q)) r q

@@ -34,11 +34,11 @@ use Rattle.line.specs.Report as report
 use Rattle.line.specs.Report.{process, isProcess, remleft, remright, Intro, Req, mail, Process, p, left, right, intro, req, not-leaving, defined, _and_, _⨾_, if_then_, if_then_else_, send_to_, exited, exit, handle, command, Guard, leftId, rightId, variable, processOf, nodeOf, stateAfter, Fires}
 use Rattle.line.specs.Claims.{WithinCapacity, ReportAgrees, Apart}
 use Rattle.lists.proofs.Lists.{fails, true-all}
-use Rattle.line.proofs.Answers.{done-inj, refused-done, bound, require-true, require-false, required, may-leave, unheld}
+use Rattle.line.proofs.Answers.{done-inj, refused-done, require-true, require-false, required, may-leave, unheld}
 use Rattle.line.proofs.Messages.{held-mem, mem-held, receives, room-for}
 use Rattle.line.proofs.Sends.{Clear, clear-act}
 use Rattle.line.proofs.LeaveTest.{leave-tested}
-use Rattle.line.proofs.Whole.{Room, step-result}
+use Rattle.line.proofs.Whole.{Room, stepped, step-result}
 use Rattle.line.proofs.Causes.{refused-exactly}
 use Rattle.line.proofs.Changes.{found, member-found, takes-it, change-same, change-other, keeps-other, mem-without, receive-number, true-room}
 use Rattle.line.proofs.ReportLocal.{Matches, start, request-matches, introduce-matches, id-back}
@@ -311,11 +311,9 @@ module _ (line : Line) (x : steps.Step) (ok : Accepted line) where
 
   -- the parts of a step that is done, or refused for want of room
   parts-done : {s : Line} → step line x ≡ done s → Parts
-  unfolding step
   parts-done e =
-      let w = bound (find (x .station) line) (λ (s : Node). act (leaveOf line s) s (x .action) >>= (λ (e : Effect). commit line (number s) e)) e in
-      let v = bound (act (leaveOf line (w .0)) (w .0) (x .action)) (λ (e : Effect). commit line (number (w .0)) e) (w .2) in
-      record { node = w .0; member = found (x .station) line (w .1) .0; finds = w .1; effect = v .0; acts = v .1 }
+      let v = stepped line x e in
+      record { node = v .node; member = found (x .station) line (v .finds) .0; finds = v .finds; effect = v .effect; acts = v .acts }
 
   parts-full : step line x ≡ refused Full → Parts
   parts-full e =

@@ -1,7 +1,10 @@
 -- Whole runs: one induction over the list of readings, and what follows from it. What each step that is done keeps, a run keeps, also one
--- that stops at a refusal; machines that answer alike have runs that end alike; and a run goes on with the readings that are left.
+-- that stops at a refusal; in one that comes to its end every step was done; machines that answer alike have runs that end alike; and a run
+-- goes on with the readings that are left.
 use mathlib.Core.Path.{_≡_, refl, sym, _∙_, ap, subst}
-use mathlib.Core.List.{List, [], _∷_, map}
+use mathlib.Core.Logic.{⊎-elim}
+use mathlib.Core.List.{List, [], _∷_, map, List·Memᴰ·not-nil, List·Memᴰ·cases-cons}
+use mathlib.Core.List.{List·Memᴰ as Member, List·Memᴰ·head as here, List·Memᴰ·tail as there}
 use Prim.Native.Nat.{ℕ, zero, suc, _+_, _-_, _≤_, _<_}
 use native.Mathlib.Omega.{arith}
 use lib.ListN.{take}
@@ -76,16 +79,38 @@ module _ {S : Type 0} (f : Machine S) where
       go (refused r) e h = stop s x l r e
       go (done t) e h = more s t x l (course t l) e (h t)
 
+  -- each reading of the list keeps P where it is done
+  abbrev pub KeptBy : (S → Type 0) → List Reading → Type 0
+  KeptBy P l = (s t : S) (x : Reading) → Member x l → P s → f s x ≡ done t → P t
+
   -- what each step that is done keeps, the course keeps
-  pub course-keeps : (P : S → Type 0) → ((s t : S) (x : Reading) → P s → f s x ≡ done t → P t) → (l : List Reading) (s : S) → P s → P ((course s l) .state)
-  course-keeps P step = course-induct (λ s l c. P s → P (c .state)) (λ s p. p) (λ s x l r e p. p) (λ s t x l c e h p. h (step s t x p e))
+  pub course-keeps : (P : S → Type 0) (l : List Reading) → KeptBy P l → (s : S) → P s → P ((course s l) .state)
+  course-keeps P l kept s =
+      course-induct (λ s l c. KeptBy P l → P s → P (c .state)) (λ s k p. p) (λ s x l r e k p. p)
+      (λ s t x l c e h k p. h (λ a b y m. k a b y (there m)) (k s t x (here refl) p e)) l s kept
+
+  -- a reading is done in a state that P holds of
+  pub record DoneIn (P : S → Type 0) (x : Reading) : Type 0 where
+    pub before : S
+    pub after : S
+    pub holds : P before
+    pub does : f before x ≡ done after
+
+  -- and in a course that comes to its end each reading was done, in such a state
+  pub course-does : (P : S → Type 0) (l : List Reading) → KeptBy P l → (s : S) → P s → (course s l) .ending ≡ Complete → (x : Reading) → Member x l → DoneIn P x
+  course-does P l kept s =
+      course-induct (λ s l c. KeptBy P l → P s → c .ending ≡ Complete → (x : Reading) → Member x l → DoneIn P x) (λ s k p e x m. absurd (List·Memᴰ·not-nil m))
+      (λ s x l r e k p z. absurd (let w : _≡_ {A = ℕ} 0 1 = cc in omega arith))
+      (λ s t x l c e h k p z y m.
+      ⊎-elim (λ i. record { before = s; after = t; holds = p; does = rw i e })
+      (h (λ a b u n. k a b u (there n)) (k s t x (here refl) p e) z y) (List·Memᴰ·cases-cons m)) l s kept
 
   -- what holds between the states before and after each step that is done holds between the first state and the last
   pub course-relates : (P : S → Type 0) (R : S → S → Type 0) → ((s : S) → P s → R s s) → ((s t u : S) → R s t → R t u → R s u)
       → ((s t : S) (x : Reading) → P s → f s x ≡ done t → P t × R s t)
       → (l : List Reading) (s : S) → P s → P ((course s l) .state) × R s ((course s l) .state)
   course-relates P R same then step l s p =
-      course-keeps (λ t. P t × R s t) (λ t u x w e. let v = step t u x (w .0) e in (v .0, then s t u (w .1) (v .1))) l s (p, same s p)
+      course-keeps (λ t. P t × R s t) l (λ t u x m w e. let v = step t u x (w .0) e in (v .0, then s t u (w .1) (v .1))) s (p, same s p)
 
 -- Two machines: related states are answered alike, and related again where the step is done. So they end alike after as many steps, related.
 module _ {S T : Type 0} (R : S → T → Type 0) where
@@ -141,9 +166,13 @@ run-course =
     (λ line after x l c e h. run-next line x l ∙ ap (next line l) e ∙ ap (λ (r : Run). record { ending = r .ending; steps = suc (r .steps); line = r .line }) h)
 
 -- what each step that is done keeps, a run keeps
-pub run-keeps : (P : Line → Type 0) → ((line after : Line) (x : Reading) → P line → try line x ≡ done after → P after)
-    → (l : List Reading) (line : Line) → P line → P ((run line l) .line)
-run-keeps P step l line p = rw (run-course l line) (course-keeps try P step l line p)
+pub run-keeps : (P : Line → Type 0) (l : List Reading) → KeptBy try P l → (line : Line) → P line → P ((run line l) .line)
+run-keeps P l kept line p = rw (run-course l line) (course-keeps try P l kept line p)
+
+-- and in a run that comes to its end each reading was done
+pub run-does : (P : Line → Type 0) (l : List Reading) → KeptBy try P l → (line : Line) → P line → (run line l) .ending ≡ Complete
+    → (x : Reading) → Member x l → DoneIn try P x
+run-does P l kept line p e = course-does try P l kept line p (rw (run-course l line) at e)
 
 pub run-relates : (P : Line → Type 0) (R : Line → Line → Type 0) → ((line : Line) → P line → R line line) → ((a b c : Line) → R a b → R b c → R a c)
     → ((line after : Line) (x : Reading) → P line → try line x ≡ done after → P after × R line after)

@@ -42,11 +42,16 @@ clear-one r c h = record {
   once = (λ k m. absurd (List·Memᴰ·not-nil m), tt);
 }
 
--- a message to each neighbour that there is
+-- a message to each neighbour that there is: where it goes, and what it is
 pub sent-to : (k : Neighbour) (c : Message) {m : Send} → Member m (sendTo k c) → k ≡ Station (m .to)
 unfolding sendTo
 sent-to None c h = absurd (List·Memᴰ·not-nil h)
 sent-to (Station r) c h = ap Station (sym (ap (λ (z : Send). z .to) (List·Memᴰ·eq-of-singleton h)))
+
+pub sent-message : (k : Neighbour) (c : Message) {m : Send} → Member m (sendTo k c) → m .message ≡ c
+unfolding sendTo
+sent-message None c h = absurd (List·Memᴰ·not-nil h)
+sent-message (Station r) c h = ap (λ (z : Send). z .message) (List·Memᴰ·eq-of-singleton h)
 
 clear-two : (s : Node) → Sided s → {a b : Neighbour} → s .station .left ≡ a → s .station .right ≡ b → (c e : Message) → Clear (number s) (sendTo a c ++ sendTo b e)
 unfolding sendTo

@@ -82,7 +82,7 @@ changed-came n f line h t m =
     (changed-mem n f line m)
 
 -- A message is put into a bag.
-receive-links : (m : Message) (t : Node) {y : ℕ} → Linked (withMessage m t) y → Linked t y ⊎ (introduction y ≡ m)
+pub receive-links : (m : Message) (t : Node) {y : ℕ} → Linked (withMessage m t) y → Linked t y ⊎ (introduction y ≡ m)
 unfolding withMessage
 receive-links m t (by-neighbour d e) = inl (by-neighbour d e)
 receive-links m t {y} (by-introduction k) = ⊎-elim inr (λ h. inl (by-introduction h)) (receives m (t .bag) .only (introduction y) k)
@@ -346,17 +346,33 @@ replaced-room n none line k h z r t m e = r t (without-mem n line m .0) e
 replaced-room n (some u) line k h z r t m e =
     ⊎-elim (λ w. r t (w .0) e) (λ w. absurd (z (sym e ∙ ap number (w .3) ∙ h u refl))) (changed-mem n (λ (t : Node). u) line m)
 
-pub step-result : (line : Line) (x : declared.Step) {after : Line} → Accepted line → step line x ≡ done after → Result line after
-unfolding step commit replace
-step-result line x {after} ok e =
+-- A step that was done, in its parts: the station found, its effect, the room of every receiver, and what came of it.
+pub record Stepped (line : Line) (x : declared.Step) (after : Line) : Type 0 where
+  pub node : Node
+  pub finds : find (x .station) line ≡ done node
+  pub effect : Effect
+  pub acts : act (leaveOf line node) node (x .action) ≡ done effect
+  pub room : all (hasRoom line) (effect .sends) ≡ true
+  pub result : sendAll (effect .sends) (replace (number node) (effect .after) line) ≡ after
+
+pub stepped : (line : Line) (x : declared.Step) {after : Line} → step line x ≡ done after → Stepped line x after
+unfolding step commit
+stepped line x e =
     let w = bound (find (x .station) line) (λ (s : Node). act (leaveOf line s) s (x .action) >>= (λ (e : Effect). commit line (number s) e)) e in
     let v = bound (act (leaveOf line (w .0)) (w .0) (x .action)) (λ (e : Effect). commit line (number (w .0)) e) (w .2) in
-    let m = found (x .station) line (w .1) .0 in
-    let sided = ok .sided (w .0) m in
     let r = required (all (hasRoom line) (v .0 .sends)) Full (v .2) in
-    subst (Result line) (done-inj (r .1))
-    (go (w .0) m (v .0 .after) (v .0 .sends) (act-links line (w .0) sided (ok .small (w .0) m) (leaveOf line (w .0)) (leave-tested line (w .0) May .0) (x .action) (v .1))
-    (act-keeps (leaveOf line (w .0)) (w .0) (x .action) (v .1)) (clear-act (w .0) sided (leaveOf line (w .0)) (x .action) (v .1)) (λ k i. has-room k line (all-true (hasRoom line) (r .0) i)))
+    record { node = w .0; finds = w .1; effect = v .0; acts = v .1; room = r .0; result = done-inj (r .1) }
+
+pub step-result : (line : Line) (x : declared.Step) {after : Line} → Accepted line → step line x ≡ done after → Result line after
+unfolding replace
+step-result line x {after} ok e =
+    let v = stepped line x e in
+    let s = v .node in
+    let m = found (x .station) line (v .finds) .0 in
+    let sided = ok .sided s m in
+    subst (Result line) (v .result)
+    (go s m (v .effect .after) (v .effect .sends) (act-links line s sided (ok .small s m) (leaveOf line s) (leave-tested line s May .0) (x .action) (v .acts))
+    (act-keeps (leaveOf line s) s (x .action) (v .acts)) (clear-act s sided (leaveOf line s) (x .action) (v .acts)) (λ k i. has-room k line (all-true (hasRoom line) (v .room) i)))
   where
     go : (s : Node) → Member s line → (o : Option Node) (l : List Send) → LinksKept line (number s) (Linked s) o l → KeepsIfThere s o → Clear (number s) l → ((k : Send) → Member k l → Room line k)
         → Result line (sendAll l (replace (number s) o line))
