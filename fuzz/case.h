@@ -24,8 +24,9 @@ enum {
 
 /* How often the runs of the inputs, the lists of allowed steps in the inputs' rooms, and the roll calls gave each answer; and how often the
  * leave question about the station of an accepted input, a run that stopped with 14, and the records of a roll call gave each reason. And
- * how many inputs had no site code, some, and one above the bound. */
+ * how many inputs had no site code, some, and one above the bound; and how many runs had the premises of each lasting fact. */
 extern uint64_t answers_met[16], lists_met[10], lines_met[2], reasons_met[4], stops_met[4], calls_met[18], records_met[4], sites_met[3];
+extern uint64_t lasting_met[2];
 
 struct cut {
     const uint8_t *table, *steps;

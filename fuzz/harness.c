@@ -14,6 +14,8 @@
  *  - a roll call is refused for the table, then with 17 for more than 64 questions, then with 9 for too few records, and every record is
  *    then as it was, as are those past the questions; else each record is what the blocks say of its station, in the questions' order;
  *  - the line question agrees with the written table, read here;
+ *  - after a run answered 0 a table in line is in line again, and the list held no exit; and the station asked about may still leave, if it
+ *    might and the list had no step at it;
  *  - a site code above 9,999 is 4 where neither 1, 2 nor 3 applies; every station written has the code that it had; and the table with its
  *    codes taken out gives the same answers, the same list, and the same bytes but for the codes and the check words;
  *  - the view gives a block at its place, and past the last one the end.
@@ -41,6 +43,7 @@ __attribute__((section("__libfuzzer_extra_counters")))
 static uint8_t counters[COUNTERS];
 
 uint64_t answers_met[16], lists_met[10], lines_met[2], reasons_met[4], stops_met[4], calls_met[18], records_met[4], sites_met[3];
+uint64_t lasting_met[2];
 
 static void tell(uint32_t kind, uint32_t a, uint32_t b, uint32_t c)
 {
@@ -586,6 +589,32 @@ static void laws_of_sites(const struct cut *c, uint32_t fault, const struct resu
     }
 }
 
+/* The two lasting facts (document 02, T-07), of a run answered 0: a table in line is in line again, and the list holds no exit; and the
+ * station asked about may still leave, if it might and the list has no step at it. */
+static void laws_of_lasting(const struct cut *c, const struct result *whole, enum place place)
+{
+    size_t written = (size_t)whole->ran.stations * BLOCK;
+    int exits = 0, named = 0;
+    if (whole->ran.answer != 0) {
+        return;
+    }
+    for (size_t at = 0; at < c->steps_len; at += STEP) {
+        exits = exits || get16(c->steps + at) == 3;
+        named = named || get32(c->steps + at + 4) == c->station;
+    }
+    if (station_line_in_line(lend_bytes(&tables, c->table, c->table_len, place), c->table_len).yes == 1) {
+        struct station_line_told again = station_line_in_line(lend_bytes(&tables, whole->bytes, written, place), written);
+        law(again.answer == 0 && again.yes == 1, "a table in line is in line after a run answered 0");
+        law(!exits, "a run answered 0 over a table in line holds no exit");
+        lasting_met[0]++;
+    }
+    if (!named && leave_of(c->table, c->table_len, c->station, place).reason == STATION_LINE_MAY_LEAVE) {
+        struct station_line_leave still = leave_of(whole->bytes, written, c->station, place);
+        law(still.answer == 0 && still.reason == STATION_LINE_MAY_LEAVE, "who may leave still may after a run without a step at it");
+        lasting_met[1]++;
+    }
+}
+
 /* The list cut in two. */
 static void cut_list(const struct cut *c, const struct result *whole, enum place place)
 {
@@ -631,6 +660,7 @@ int LLVMFuzzerTestOneInput(const uint8_t *data, size_t size)
     if (1 <= whole.ran.answer && whole.ran.answer <= 9) {
         return 0;
     }
+    laws_of_lasting(&c, &whole, place);
     read_back(&whole, place);
     cut_list(&c, &whole, place);
     return 0;

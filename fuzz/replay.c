@@ -41,6 +41,7 @@ int main(int argc, char **argv)
     print_met("answers of the roll call met", calls_met, 18);
     print_met("reasons in its records met", records_met, 4);
     print_met("site codes: none, some, and one above the bound met", sites_met, 3);
+    print_met("lasting facts met, of the line and of a station", lasting_met, 2);
     printf("%d passed, 0 failed\n", argc - 1);
     return argc == 1;
 }

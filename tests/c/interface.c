@@ -1,7 +1,7 @@
 /* The C interface as a C program meets it: interface CASES QUESTIONS. All seven functions on the example of document 01, on every refusal
- * number, with rooms too short, exact and longer than needed, every byte compared, with site codes and without, and the stored questions
- * asked. What is handed over lies against pages that may not be touched (areas.h). The last line is 'N passed, M failed', counting
- * cases. */
+ * number, with rooms too short, exact and longer than needed, every byte compared, with site codes and without, the two lasting facts
+ * (lasting.c), and the stored questions asked. What is handed over lies against pages that may not be touched (areas.h). The last line is
+ * 'N passed, M failed', counting cases. */
 #include <stdio.h>
 
 #include "calls.h"
@@ -24,6 +24,7 @@ int main(int argc, char **argv) {
     try_roll_call();
     try_views();
     try_sites();
+    try_lasting();
     try_stored(argv[1], argv[2]);
     return end_cases();
 }

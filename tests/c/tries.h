@@ -22,6 +22,7 @@ void try_questions(void);
 void try_roll_call(void);
 void try_views(void);
 void try_sites(void);
+void try_lasting(void);
 
 /* The questions of tests/questions.txt about the tables of cases.bin: one case for each table. */
 void try_stored(const char *cases, const char *questions);

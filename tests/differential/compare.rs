@@ -6,6 +6,7 @@ use crate::allowed::{self, same_allowed};
 use crate::archive::{self, Lent, Viewed, all_pattern};
 use crate::cases::{Case, KINDS, RECEIVERS};
 use crate::joined;
+use crate::lasting::same_lasting;
 use crate::leaving::{same_leave, same_of_alike, same_reason};
 use crate::lining::same_line;
 use crate::random::Random;
@@ -109,6 +110,8 @@ pub fn compare(random: &mut Random, case: &Case, tally: &mut Tally) -> Result<()
     let written = &room.bytes()[..written.len()];
     let coded = same_sites(random, case, ran, written, &mut tally.sites);
     tally.compared(Comparison::Sites, coded)?;
+    let lasted = same_lasting(random, case, ran, written, &alone, &mut tally.lasting);
+    tally.compared(Comparison::Lasting, lasted)?;
     if case.kind == RECEIVERS || random.percent(15) {
         let agreed = two_receivers(random, case, tally);
         tally.compared(Comparison::Receivers, agreed)?;

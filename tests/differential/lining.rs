@@ -56,20 +56,27 @@ fn kinds(block: &[u8], kind: u8) -> usize {
         .count()
 }
 
+/// Document 01: "each station's left is the next smaller station present, none for the smallest, and likewise its right", of the bytes of an
+/// accepted table and with no help from the model.
+pub fn neighbours_in_line(table: &[u8]) -> bool {
+    let mut blocks: Vec<&[u8]> = table.chunks_exact(BLOCK).collect();
+    blocks.sort_by_key(|block| long(block, 4));
+    let number = |k: usize| blocks.get(k).map_or(0, |block| long(block, 4));
+    (0..blocks.len()).all(|k| {
+        let smaller = if k == 0 { 0 } else { number(k - 1) };
+        long(blocks[k], 8) == smaller && long(blocks[k], 12) == number(k + 1)
+    })
+}
+
 /// Counts what is met of an accepted table, from its bytes and not from the model.
 fn count(met: &mut [u64; MET.len()], table: &[u8]) {
-    let mut blocks: Vec<&[u8]> = table.chunks_exact(BLOCK).collect();
+    let blocks: Vec<&[u8]> = table.chunks_exact(BLOCK).collect();
     let of_kind = |kind| -> usize { blocks.iter().map(|block| kinds(block, kind)).sum() };
     let (introductions, left, right) = (of_kind(1), of_kind(2), of_kind(3));
     let leaving = blocks.iter().filter(|block| block[2] == 1).count();
     let at_the_end = |block: &&&[u8]| block[16] == 32 && block[20 + 8 * 31] != 1;
     let last = blocks.iter().filter(at_the_end).count();
-    blocks.sort_by_key(|block| long(block, 4));
-    let number = |k: usize| blocks.get(k).map_or(0, |block| long(block, 4));
-    let tidy = (0..blocks.len()).all(|k| {
-        let smaller = if k == 0 { 0 } else { number(k - 1) };
-        long(blocks[k], 8) == smaller && long(blocks[k], 12) == number(k + 1)
-    });
+    let tidy = neighbours_in_line(table);
     let removals = left + right;
     let quiet = removals == 0;
     let yes = tidy && quiet && leaving == 0;

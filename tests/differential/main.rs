@@ -13,6 +13,7 @@ mod compare;
 mod counts;
 mod crowded;
 mod joined;
+mod lasting;
 mod leaving;
 mod lemma3;
 mod lining;

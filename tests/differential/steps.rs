@@ -121,8 +121,21 @@ fn any_message(random: &mut Random, table: &Table, station: u32) -> Option<Messa
     }
 }
 
-/// A step that is done, and what it comes to; None where none was found in a few tries.
-fn likely(random: &mut Random, table: &Table, mood: Mood) -> Option<(Step, Effect)> {
+/// The first leaving station from this one on, and then from the smallest on, that may go; not the station `but`, where one is named.
+fn next_to_go(table: &Table, from: u32, but: Option<u32>) -> Option<u32> {
+    let mut around = table.range(from..).chain(table.range(..from));
+    around
+        .find(|(number, held)| held.leaving && Some(**number) != but && nidec(table, **number))
+        .map(|(&number, _)| number)
+}
+
+/// A step that is done, and what it comes to; it is not at the station `but`, where one is named. None where none was found in a few tries.
+fn likely(
+    random: &mut Random,
+    table: &Table,
+    mood: Mood,
+    but: Option<u32>,
+) -> Option<(Step, Effect)> {
     if table.is_empty() {
         return None;
     }
@@ -142,15 +155,16 @@ fn likely(random: &mut Random, table: &Table, mood: Mood) -> Option<(Step, Effec
                 Timeout
             }
             _ => {
-                // The first station from here on that may go.
-                let mut around = table.range(station..).chain(table.range(..station));
-                match around.find(|(number, station)| station.leaving && nidec(table, **number)) {
-                    Some((&number, _)) => station = number,
+                match next_to_go(table, station, but) {
+                    Some(number) => station = number,
                     None => continue,
                 }
                 Exit
             }
         };
+        if Some(station) == but {
+            continue;
+        }
         let step = Step { station, action };
         if let Ok(effect) = effect(table, step) {
             return Some((step, effect));
@@ -166,12 +180,23 @@ pub fn lively(
     most: usize,
     met: &mut [u64; RULES.len()],
 ) -> Vec<u8> {
+    lively_but(random, table, most, met, None)
+}
+
+/// The same with no step at this station, where one is named.
+pub fn lively_but(
+    random: &mut Random,
+    table: &mut Table,
+    most: usize,
+    met: &mut [u64; RULES.len()],
+    but: Option<u32>,
+) -> Vec<u8> {
     let mut list = Vec::with_capacity(STEP * most);
     let first = mood(random);
     for _ in 0..most {
-        let found = likely(random, table, first).or_else(|| {
+        let found = likely(random, table, first, but).or_else(|| {
             let other = mood(random);
-            likely(random, table, other)
+            likely(random, table, other, but)
         });
         let Some((step, effect)) = found else {
             break;

@@ -6,6 +6,7 @@ use crate::allowed::Lists;
 use crate::archive::Viewed;
 use crate::cases::{Case, KINDS};
 use crate::counts::{Counts, print_compared};
+use crate::lasting::Lasting;
 use crate::leaving::Leaves;
 use crate::lining::Lines;
 use crate::roll_call::RollCalls;
@@ -27,10 +28,11 @@ pub enum Comparison {
     Lent,
     Joins,
     Sites,
+    Lasting,
     Receivers,
 }
 
-pub const COMPARISONS: [&str; 13] = [
+pub const COMPARISONS: [&str; 14] = [
     "the run's number, counts, reason and holder",
     "every byte of the room",
     "the list of allowed steps, and every byte of its room",
@@ -43,6 +45,7 @@ pub const COMPARISONS: [&str; 13] = [
     "lent memory, and what lies around it, as it was",
     "joined stations before and after",
     "site codes: carried by every step, no part in anything else, none above 9,999",
+    "the two lasting facts: a table in line, a station that may leave",
     "two receivers of one table",
 ];
 
@@ -82,6 +85,7 @@ pub struct Tally {
     pub lists: Lists,
     pub calls: RollCalls,
     pub sites: Sites,
+    pub lasting: Lasting,
     /// The refused steps 11 to 15 by action: timeout, deliver, exit.
     pub stopped: [[u64; 3]; 16],
     pub steps_done: u64,
@@ -196,6 +200,7 @@ impl Tally {
         missing.extend(self.lists.missing());
         missing.extend(self.calls.missing());
         missing.extend(self.sites.missing());
+        missing.extend(self.lasting.missing());
         missing
     }
 
@@ -233,6 +238,7 @@ impl Tally {
         self.lists.print_steps();
         self.calls.print();
         self.sites.print();
+        self.lasting.print();
         println!("steps done, by rule, of those chosen against the model:");
         for (name, count) in RULES.iter().zip(&self.rules) {
             println!("{count:>10}  {name}");

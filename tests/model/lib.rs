@@ -12,6 +12,8 @@ mod bytes;
 mod first_steps;
 #[cfg(test)]
 mod in_line;
+#[cfg(test)]
+mod lasting;
 mod lemma3;
 mod listing;
 #[cfg(test)]
