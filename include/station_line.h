@@ -126,7 +126,8 @@ struct station_line_ran station_line_run(const uint8_t *table, size_t table_len,
 struct station_line_filled station_line_allowed(const uint8_t *table, size_t table_len, uint8_t *room, size_t room_len);
 
 /* Whether NIDEC holds for a station, leaving mark or not: its bag is empty and no other station has it as a neighbour or as an
- * introduction in its bag; and if not, why not. 1 to 7 of the table, 11 where no block has that number, or 0 with the reason. */
+ * introduction in its bag; and if not, why not. Once it holds, it still holds after every run answered 0 with no step at that station.
+ * 1 to 7 of the table, 11 where no block has that number, or 0 with the reason. */
 struct station_line_leave station_line_may_leave(const uint8_t *table, size_t table_len, uint32_t station);
 
 /* The roll call: the leave question about up to 64 stations at once, in the order given, repeats included. stations_len counts
@@ -141,8 +142,8 @@ struct station_line_filled station_line_roll_call(const uint8_t *table, size_t t
 
 /* Whether the table is in line, and so stays in line: each station's left is the next smaller station present, none for the smallest,
  * and likewise its right; no bag holds a remove-left or remove-right; and no station is leaving. Introductions may wait: none of them
- * can change a neighbour in such a table. 1 to 7 of the table, or 0 with yes or no. The empty table is in line. Before version 2.2 the
- * neighbours alone decided. */
+ * can change a neighbour in such a table, and after every run answered 0 it is in line again. 1 to 7 of the table, or 0 with yes or no.
+ * The empty table is in line. Before version 2.2 the neighbours alone decided. */
 struct station_line_told station_line_in_line(const uint8_t *table, size_t table_len);
 
 /* The table block by block: begin at position 0, go on at next. Position p of an accepted table with more than p blocks is its block

@@ -1,7 +1,7 @@
 # The documents' sessions, word for word.
 mkdir sessions && cd sessions || exit 1
 mkdir path && ln -s "$program" path/station-line
-for document in FORMAT MACHINE; do
+for document in FORMAT MACHINE APPENDIX; do
     mkdir $document
     holds "the sessions of docs/$document.md" eval '(cd $document && PATH=$PWD/../path:$PATH "$python" "$root/tests/console/sessions.py" "$root/docs/$document.md")'
 done
