@@ -8,16 +8,21 @@ use native.Mathlib.Omega.{arith}
 use lib.Dec.{eqb}
 use borrow.Author.Tests.{eqb-true, eqb-false}
 use Rattle.line.specs.declared.Leave.the-variants.{May}
+use Rattle.line.specs.declared.Reading.{Reading}
+use Rattle.line.specs.declared.Reading.the-variants as reading
+use Rattle.line.specs.declared.Step as declared
 use Rattle.line.specs.declared.Ending.the-variants.{Complete}
 use Rattle.line.specs.Answer.{Answer, refused, done, answerNumber}
-use Rattle.line.specs.Node.{Node}
+use Rattle.line.specs.Node.{Node, Line}
 use Rattle.line.specs.InLine.{InLine, inLine}
 use Rattle.line.specs.Leave.{leaveOf}
 use Rattle.line.specs.Step.{find}
-use Rattle.line.proofs.Answers.{ending-zero}
+use Rattle.line.specs.Run.{try}
+use Rattle.line.proofs.Answers.{ending-zero, refused-done}
 use Rattle.line.proofs.Changes.{found}
 use Rattle.line.proofs.InLineTest.{in-line-tested}
 use Rattle.line.proofs.LeaveTest.{leave-tested}
+use Rattle.line.proofs.Runs.{run-does}
 use Rattle.lasting.proofs.StepsElsewhere.{NidecAt}
 use Rattle.lasting.proofs.Runs.{run-in-line, run-without-exit, run-elsewhere}
 use Rattle.table.specs.Blocks.{lineOf}
@@ -34,7 +39,7 @@ use Rattle.questions.proofs.Meanings.{in-line-means}
 use Rattle.leave.specs.declared.LeaveTold.the-variants.{Refused, Told}
 use Rattle.leave.specs.Leave.{leaveAt, mayLeave}
 use Rattle.leave.proofs.Meanings.{may-leave-means}
-use Rattle.appendix.specs.Claims.{answerOf, tableAfter, LineLasts, NoStepAt, LeaveLasts}
+use Rattle.appendix.specs.Claims.{answerOf, tableAfter, RecordsAreSteps, LineLasts, NoStepAt, LeaveLasts}
 
 -- A run answered 0:
 pub record RanWhole (t steps room : List ℕ) : Type 0 where
@@ -49,6 +54,17 @@ answered-zero t steps room = go (eqb (faultBefore t steps room) 0) refl
         → answerNumber ((cond b (endedWith (runOf t steps) room) (refusedWith (faultBefore t steps room) room)) .answer) ≡ 0 → RanWhole t steps room
     go true e h = record { began = eqb-true (faultBefore t steps room) 0 e; ended = ending-zero ((runOf t steps) .ending) h }
     go false e h = absurd (eqb-false (faultBefore t steps room) 0 e h)
+
+-- Its records were all done, and only a step is done.
+done-is-step : (line : Line) (r : Reading) {after : Line} → try line r ≡ done after → (x : declared.Step) × (r ≡ reading.Step x)
+unfolding try
+done-is-step line (reading.Step x) e = (x, refl)
+done-is-step line (reading.Refused q) e = refused-done e
+
+pub records-are-steps : RecordsAreSteps
+records-are-steps t steps room zero r m =
+    let d = run-does (λ (l : Line). Unit {0}) (stepsOf steps) (λ a b x k p e. tt) (lineOf t) tt (answered-zero t steps room zero .ended) r m in
+    done-is-step (d .before) r (d .does)
 
 -- A table of which the line question says yes is accepted, and its line is in line.
 in-line-of : (t : List ℕ) → isInLine t ≡ Yes → (faultOf t ≡ 0) × InLine (lineOf t)

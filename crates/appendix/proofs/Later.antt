@@ -75,7 +75,7 @@ still-leaving t steps s m goes clean u k e =
 
 pub exit-later : ExitLater
 unfolding lineOf
-exit-later t steps room later s m goes may zero elsewhere fits =
+exit-later t steps room room′ s m goes may zero elsewhere fits =
     let r = answered-zero t steps room zero in
     let b = nidec-after t steps (number s) may elsewhere in
     let clean = nidec-of t (number s) may .0 in
@@ -86,5 +86,5 @@ exit-later t steps room later s m goes may zero elsewhere fits =
     let same : lineOf (tableAfter t steps room) ≡ line = ap inWrittenOrder (back .0) ∙ written-order-stays line (back .1) in
     let ranged = in-range (number s) .1 (rw (b .named) at (ok .ranged (b .block) (b .member))) in
     let x = stepBytes (exitOf (number s)) in
-    rw (answer-is (tableAfter t steps room) x later (written-is-accepted t steps room (r .began)) (step-size (exitOf (number s))) fits, same, step-reads-back (exitOf (number s)) (rw ranged))
+    rw (answer-is (tableAfter t steps room) x room′ (written-is-accepted t steps room (r .began)) (step-size (exitOf (number s))) fits, same, step-reads-back (exitOf (number s)) (rw ranged))
     (exit-number line (number s) ok b left)

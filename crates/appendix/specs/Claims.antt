@@ -10,6 +10,7 @@ use mathlib.Core.List.{List·Memᴰ as Member}
 use lib.ListN.{length}
 use Rattle.line.specs.declared.Action.the-variants.{Exit}
 use Rattle.line.specs.declared.Leave.the-variants.{May}
+use Rattle.line.specs.declared.Reading.{Reading}
 use Rattle.line.specs.declared.Reading.the-variants.{Step}
 use Rattle.line.specs.declared.Step as declared
 use Rattle.line.specs.Answer.{answerNumber}
@@ -31,12 +32,16 @@ answerOf t steps room = answerNumber ((outcome t steps room) .answer)
 abbrev pub tableAfter : List ℕ → List ℕ → List ℕ → List ℕ
 tableAfter t steps room = tableIn (outcome t steps room)
 
--- no step record of the list is an exit; none is at station n. Of a run answered 0 every record is a step, and is done.
+-- no step record of the list is an exit; none is at station n
 abbrev pub HoldsNoExit : List ℕ → Type 0
 HoldsNoExit steps = (x : declared.Step) → Member (Step x) (stepsOf steps) → x .action ≢ Exit
 
 abbrev pub NoStepAt : ℕ → List ℕ → Type 0
 NoStepAt n steps = (x : declared.Step) → Member (Step x) (stepsOf steps) → x .station ≢ n
+
+-- A record that is malformed is no step, but of a run answered 0 there is none: every record of the list is a step.
+abbrev pub RecordsAreSteps : Type 0
+RecordsAreSteps = (t steps room : List ℕ) → answerOf t steps room ≡ 0 → (r : Reading) → Member r (stepsOf steps) → (x : declared.Step) × (r ≡ Step x)
 
 -- 1. "A table that is in line by T-04 is in line after every run answered 0, and no such run holds an exit."
 abbrev pub LineLasts : Type 0
@@ -55,7 +60,7 @@ LeaveLasts =
 -- where a neighbour's bag is full; nothing else refuses it.
 abbrev pub ExitLater : Type 0
 ExitLater =
-    (t steps room later : List ℕ) (s : Node) → Member s (nodes t) → leaving s ≡ true
-    → mayLeave t (number s) ≡ Told May → answerOf t steps room ≡ 0 → NoStepAt (number s) steps → length (tableAfter t steps room) ≤ length later
-    → (answerOf (tableAfter t steps room) (stepBytes (exitOf (number s))) later ≡ 0)
-    ⊎ (answerOf (tableAfter t steps room) (stepBytes (exitOf (number s))) later ≡ 15)
+    (t steps room room′ : List ℕ) (s : Node) → Member s (nodes t) → leaving s ≡ true
+    → mayLeave t (number s) ≡ Told May → answerOf t steps room ≡ 0 → NoStepAt (number s) steps → length (tableAfter t steps room) ≤ length room′
+    → (answerOf (tableAfter t steps room) (stepBytes (exitOf (number s))) room′ ≡ 0)
+    ⊎ (answerOf (tableAfter t steps room) (stepBytes (exitOf (number s))) room′ ≡ 15)
