@@ -10,7 +10,7 @@ ghost use Rattle.allowed.specs.Parts.{of_kind, Small};
 use octets::{quad_at, word_at};
 
 // Numbers of stations, of which the first `count` count.
-#[derive(Drop)]
+#[derive(Clone, Copy)]
 pub(crate) struct Chosen {
     pub numbers: [u32; 64],
     pub count: usize,

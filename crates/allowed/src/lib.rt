@@ -1,4 +1,6 @@
 // The list of every step that may happen next (document 02, T-01).
+#![tactic(auto)]
+
 mod bags;
 mod judging;
 mod stations;

@@ -1,4 +1,6 @@
 // One block of 512 bytes, read and checked (document 01, "The block").
+#![tactic(auto)]
+
 pub mod layout;
 pub mod places;
 pub mod stations;

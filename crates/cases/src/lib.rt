@@ -1,5 +1,7 @@
 // What the programs over files of cases share: a part of such a file is read, a room is filled with one byte, and it is told whether it
 // still holds nothing else.
+#![tactic(auto)]
+
 ghost use Rattle.io.specs.Counts.{IsPrefixLen};
 
 use libc::STDOUT_FILENO;

@@ -1,5 +1,7 @@
 // The check over tables that are damaged in every way: the file cases.bin holds tables, each after its length in four bytes, and a
 // line is printed for each, its place in the file and the number that the check gives it.
+#![tactic(auto)]
+
 use libc::STDOUT_FILENO;
 
 // The length of the next table; more than any table has where there is none.

@@ -1,4 +1,6 @@
 // The run over any bytes (document 01, "The numbers a crew may see" and "The whole run").
+#![tactic(auto)]
+
 ghost use Rattle.std.specs.Prelude.{◌≡◌};
 ghost use Rattle.finishing.specs.Ended.{said};
 ghost use Rattle.engine.specs.Ran.{outcome};

@@ -1,5 +1,7 @@
 // The fields of a block and the rule of each (document 01, "The block"), as functions of the numbers that the bytes say: one function
 // for each rule, so that a rule is changed in one place. The rule of a message place is that of a delivery too ("The step list").
+#![tactic(auto)]
+
 ghost use Rattle.std.specs.Prelude.{◌≡◌};
 ghost use Rattle.line.specs.Accepted.{in_range};
 ghost use Rattle.line.specs.Marks.{flags_hold, site_holds};
@@ -8,7 +10,7 @@ ghost use Rattle.fields.specs.Fields.{layout_holds, neighbour_holds, count_holds
 use line::{Content, Message, Neighbour};
 
 // What a message place holds.
-#[derive(Drop)]
+#[derive(Clone, Copy)]
 pub enum Place {
     Good(Message),
     Bad,

@@ -1,5 +1,7 @@
 // A lent room that is filled: the answer of every function that does so, and the last part of its work where the room is one of bytes
 // (document 01, "The numbers a crew may see").
+#![tactic(auto)]
+
 ghost use Rattle.std.specs.Prelude.{◌≡◌};
 ghost use Rattle.filling.specs.Filled.{filled_with, filled_as};
 
@@ -7,7 +9,7 @@ use words::put_word;
 
 // The number, and the amount filled; beside any number but 0 it is 0. So it is handed over in C.
 #[repr(C)]
-#[derive(Drop)]
+#[derive(Clone, Copy)]
 pub struct Filled {
     pub answer: u32,
     pub filled: u32,

@@ -1,4 +1,6 @@
 // How a run over an accepted table ends (document 01, "The whole run" and "The numbers a crew may see", 0 and 10 to 15).
+#![tactic(auto)]
+
 ghost use Rattle.std.specs.Prelude.{◌≡◌, ◌*◌, ◌≤◌, length};
 ghost use Rattle.arrays.specs.Arrays.{line_in};
 ghost use Rattle.finishing.specs.Ended.{ended_with, said};
@@ -7,7 +9,7 @@ use arrays::write_line;
 use line::{Answered, Ending, Message, Station};
 
 // What a run returns: its answer, the steps done and the stations now.
-#[derive(Drop)]
+#[derive(Clone, Copy)]
 pub struct Ran {
     pub answer: Answered,
     pub done: u32,

@@ -2,13 +2,15 @@
 // a room in four bytes each, then the table. For each case its place in the file is printed, the answer and the amount filled, a line for
 // each step with its four numbers as they stand in the bytes (action, kind, station, number), and whether the room past the list is as
 // it was.
+#![tactic(auto)]
+
 ghost use Rattle.std.specs.Prelude.{◌+◌, ◌≤◌, length};
 
 use allowed::allowed;
 use cases::{fill, print_place, print_rest, read_part};
 use libc::STDOUT_FILENO;
 
-#[derive(Drop)]
+#[derive(Clone, Copy)]
 struct Head {
     table: usize,
     room: usize,

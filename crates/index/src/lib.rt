@@ -1,5 +1,7 @@
 // An index of stations by their numbers: numbers of 64 bits, 64 times the station number plus the slot where the station stands, in rising
 // order (document 01, "The block": "blocks by rising station number"; "The numbers a crew may see", 6 and 7).
+#![tactic(auto)]
+
 ghost use Rattle.std.specs.Prelude.{◌≡◌, ◌+◌, ◌-◌, ◌<◌, ◌≤◌, eqb, length, take};
 ghost use Rattle.lists.specs.Lists.{any};
 ghost use Rattle.lists.specs.Places.{remove_at, first_at};

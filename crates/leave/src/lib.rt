@@ -1,5 +1,7 @@
 // The question whether a station may leave, and what holds it (document 01, "What the engine holds" and "The numbers a crew may see"; document
 // 02, T-02).
+#![tactic(auto)]
+
 pub mod holders;
 pub mod records;
 
@@ -20,7 +22,7 @@ use octets::word_at;
 use table::{block_at, inspect, number_at};
 
 // What the question returns: the number of a refusal, or at 0 whether the station may leave, and what holds it.
-#[derive(Drop)]
+#[derive(Clone, Copy)]
 pub enum LeaveTold {
     Refused(u32),
     Told(Leave),

@@ -8,7 +8,7 @@ use line::Leave;
 // The number of the leave question, and at 0 whether the station may leave: 1 yes, 2 its own bag, 3 the station `holder`; beside any other
 // number both are 0.
 #[repr(C)]
-#[derive(Drop)]
+#[derive(Clone, Copy)]
 pub struct LeaveRecord {
     pub answer: u32,
     pub reason: u32,

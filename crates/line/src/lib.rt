@@ -1,4 +1,5 @@
 // The types of the station line (document 01, "What the engine holds" and "The step list").
+#![tactic(auto)]
 
 pub mod limits;
 pub mod numbers;
@@ -9,21 +10,21 @@ ghost use Rattle.line.specs.Marks.{flags, marks_from};
 ghost use Rattle.line.specs.Node as node;
 
 // "A neighbour is either none or a station number."
-#[derive(Drop)]
+#[derive(Clone, Copy)]
 pub enum Neighbour {
     None,
     Station(u32),
 }
 
 // "A message is either an introduction that carries a station number, a remove-left or a remove-right."
-#[derive(Drop)]
+#[derive(Clone, Copy)]
 pub enum Content {
     Introduction(u32),
     RemoveLeft,
     RemoveRight,
 }
 
-#[derive(Drop)]
+#[derive(Clone, Copy)]
 pub struct Message {
     pub content: Content,
 }
@@ -31,14 +32,14 @@ pub struct Message {
 // What a station carries besides its number, its neighbours and its bag: whether it is leaving, and "a site code, 0 to 9,999, with 0 for none"
 // (document 02, T-05). No step changes it, so it is handed on whole; a further mark is a field here, and stands in one of the two words of
 // `impl Marks`.
-#[derive(Drop)]
+#[derive(Clone, Copy)]
 pub struct Marks {
     pub leaving: bool,
     pub site: u16,
 }
 
 // A station without its bag.
-#[derive(Drop)]
+#[derive(Clone, Copy)]
 pub struct Station {
     pub number: u32,
     pub left: Neighbour,
@@ -47,21 +48,21 @@ pub struct Station {
 }
 
 // Everything that has a left and a right is said once, over a side.
-#[derive(Drop)]
+#[derive(Clone, Copy)]
 pub enum Side {
     Left,
     Right,
 }
 
 // A step: what is done, and at which station.
-#[derive(Drop)]
+#[derive(Clone, Copy)]
 pub enum Action {
     Timeout,
     Deliver(Message),
     Exit,
 }
 
-#[derive(Drop)]
+#[derive(Clone, Copy)]
 pub struct Step {
     pub station: u32,
     pub action: Action,
@@ -69,21 +70,21 @@ pub struct Step {
 
 // What still holds a station (document 02, T-02): "own bag not empty", or "the smallest station that still has the asked one as a neighbour
 // or an introduction".
-#[derive(Drop)]
+#[derive(Clone, Copy)]
 pub enum Reason {
     OwnBag,
     HeldBy(u32),
 }
 
 // The reason that an answer carries, where it carries one.
-#[derive(Drop)]
+#[derive(Clone, Copy)]
 pub enum Carried {
     Nothing,
     Because(Reason),
 }
 
 // Whether a station may leave.
-#[derive(Drop)]
+#[derive(Clone, Copy)]
 pub enum Leave {
     May,
     MayNot(Reason),
@@ -91,7 +92,7 @@ pub enum Leave {
 
 // Why a step is refused (document 01, "The numbers a crew may see", 10 to 15). "The run's refusal 14 carries the same reason" (document 02,
 // T-02).
-#[derive(Drop)]
+#[derive(Clone, Copy)]
 pub enum Refusal {
     Malformed,
     Absent,
@@ -102,21 +103,21 @@ pub enum Refusal {
 }
 
 // "Reading one step gives either the step or its refusal."
-#[derive(Drop)]
+#[derive(Clone, Copy)]
 pub enum Reading {
     Step(Step),
     Refused(Refusal),
 }
 
 // How a run ends: all steps done, or stopped at the first refused one.
-#[derive(Drop)]
+#[derive(Clone, Copy)]
 pub enum Ending {
     Complete,
     Stopped(Refusal),
 }
 
 // What a run answers: the number of what is refused before the first step, or how it ended.
-#[derive(Drop)]
+#[derive(Clone, Copy)]
 pub enum Answered {
     Refused(u32),
     Ended(Ending),

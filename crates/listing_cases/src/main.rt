@@ -1,5 +1,7 @@
 // What the listing program prints of many pairs of files (tests/listings.py makes them). The arguments name the files two by two, a table
 // and a step list; their names are printed before each listing.
+#![tactic(auto)]
+
 use libc::STDOUT_FILENO;
 
 // The pair that stands at two places among the arguments.

@@ -1,5 +1,7 @@
 // How often the stations of a table are mentioned by others, and by which smallest station, counted in one pass over the blocks (document 02,
 // T-03: "Mentions are counted once from the table").
+#![tactic(auto)]
+
 mod places;
 
 ghost use Rattle.std.specs.Prelude.{◌≡◌, ◌<◌, ◌≤◌, length, get_or, replicate};

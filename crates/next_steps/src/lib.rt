@@ -1,1 +1,2 @@
 // No code: `specs` says which steps may happen next and `proofs` what holds of their list.
+#![tactic(auto)]

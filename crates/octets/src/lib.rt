@@ -1,4 +1,6 @@
 // The bytes of a block: little-endian integers, the sum of the words, zero bytes, and writing in place (document 01, "The block").
+#![tactic(auto)]
+
 ghost use Rattle.std.specs.Prelude.{◌≡◌, ◌+◌, ◌*◌, ◌%◌, ◌≤◌, length, replicate};
 ghost use Rattle.octets.specs.Bytes.{word, quad, le16, le32, sum_words, part, all_zero, overwrite};
 

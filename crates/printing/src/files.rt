@@ -2,7 +2,7 @@
 ghost use Rattle.io.specs.Counts.{IsPrefixLen};
 
 // Whether the file could be read, and how many bytes were read of it: all, or as many as the buffer holds.
-#[derive(Drop)]
+#[derive(Clone, Copy)]
 pub struct Got {
     pub is_read: bool,
     pub n: usize,

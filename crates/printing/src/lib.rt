@@ -1,5 +1,7 @@
 // The program that runs a list (document 01, "The printed listing" and 16 of "The numbers a crew may see"). What it prints of two files is
 // `list_files`, which is proved; around it `print_listing` reads and writes.
+#![tactic(auto)]
+
 mod files;
 
 ghost use Rattle.std.specs.Prelude.{◌≡◌, ◌≤◌, length};

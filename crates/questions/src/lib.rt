@@ -1,5 +1,7 @@
 // What a question answers, and the question whether a table is in line (document 01, "What the engine holds" and "The numbers a crew may
 // see"; document 02, T-04): "A question checks the table first (1 to 7)", and "At 0 a question returns yes or no as well".
+#![tactic(auto)]
+
 mod settled;
 
 ghost use Rattle.std.specs.Prelude.{◌≡◌, ◌&&◌, drop};
@@ -15,7 +17,7 @@ use settled::all_settled;
 use table::{block_at, inspect, number_at};
 
 // What a question returns: the number of a refusal, or at 0 yes or no.
-#[derive(Drop)]
+#[derive(Clone, Copy)]
 pub enum Told {
     Refused(u32),
     Yes,

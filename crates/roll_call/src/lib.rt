@@ -1,4 +1,6 @@
 // The roll call: the leave question about up to 64 stations at once, a record for each (document 02, T-03).
+#![tactic(auto)]
+
 ghost use Rattle.std.specs.Prelude.{◌≡◌, ◌≤◌, length, take};
 ghost use Rattle.filling.specs.Filled.{filled_as};
 ghost use Rattle.roll_call.specs.RollCall.{Rolls, gate_of, roll_call};

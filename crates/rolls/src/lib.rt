@@ -1,5 +1,7 @@
 // A roll: what a table says of its stations in arrays, and a lent list of records filled from it, one for each question (document 02, T-03;
 // document 01, "The form each place needs": a slice of small answer structs).
+#![tactic(auto)]
+
 ghost use Rattle.std.specs.Prelude.{◌≡◌, ◌++◌, map, ◌<◌, ◌≤◌, length, get_or, drop};
 ghost use Rattle.rolls.specs.Roll.{Kept, leave_counted, told_in, record_in};
 
@@ -11,7 +13,7 @@ use line::{Leave, Reason};
 // The number of the table, 1 to 7 or 0. Of an accepted table the index of its `count` stations by rising number; how many messages the station
 // of each slot has; and by place in the index how often others mention a station, and the smallest that does. Of a refused one there is no
 // station.
-#[derive(Drop)]
+#[derive(Clone, Copy)]
 pub struct Roll {
     pub fault: u32,
     pub count: usize,

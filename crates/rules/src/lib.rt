@@ -1,5 +1,7 @@
 // What one station does in a step (document 01, "What a step does at station p"), with an introduction in the order of the proof of lemma 3 of
 // source 000. Left and right are one function over a side.
+#![tactic(auto)]
+
 ghost use Rattle.std.specs.Prelude.{◌≡◌, false, List};
 ghost use Rattle.line.specs.declared.Leave.{Leave};
 ghost use Rattle.line.specs.declared.Message.{Message};
@@ -14,35 +16,35 @@ ghost use Rattle.rules.specs.Decided.{sent, both_sent, reaction, is_found, Decid
 use line::{Action, Content, Leave, Message, Neighbour, Refusal, Side, Station};
 
 // Nothing, or one message to one station.
-#[derive(Drop)]
+#[derive(Clone, Copy)]
 pub enum Sending {
     Nothing,
     To(u32, Message),
 }
 
 // No step sends more than two messages.
-#[derive(Drop)]
+#[derive(Clone, Copy)]
 pub struct Sendings {
     pub first: Sending,
     pub second: Sending,
 }
 
 // A station after a delivery, and what it sends.
-#[derive(Drop)]
+#[derive(Clone, Copy)]
 pub struct Reacted {
     pub station: Station,
     pub sending: Sending,
 }
 
 // Whether a step is done, as far as its own station goes.
-#[derive(Drop)]
+#[derive(Clone, Copy)]
 pub enum Verdict {
     Done,
     Refused(Refusal),
 }
 
 // A station's part in a step: refused, or its fields afterwards, whether its block goes, and what it sends.
-#[derive(Drop)]
+#[derive(Clone, Copy)]
 pub struct Decision {
     pub verdict: Verdict,
     pub gone: bool,

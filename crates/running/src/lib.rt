@@ -1,4 +1,6 @@
 // The loop of a run over an accepted table (document 01, "The whole run").
+#![tactic(auto)]
+
 ghost use Rattle.std.specs.Prelude.{◌≡◌, ◌/◌, ◌≤◌, length};
 ghost use Rattle.table.specs.Fault.{fault_of};
 ghost use Rattle.table.specs.Index.{index_array};

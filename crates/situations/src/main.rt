@@ -1,6 +1,8 @@
 // Step lists run over tables, the thirteen situations of document 01 among them (tests/situations.py makes them). The file cases.bin
 // holds cases: the lengths of a table, of a step list and of a room in four bytes each, then the table and the step list. For each case
 // its place in the file is printed, the listing of its run, and whether the room past the table written is as it was.
+#![tactic(auto)]
+
 ghost use Rattle.std.specs.Prelude.{◌≤◌, length};
 
 use cases::{fill, print_place, print_rest, read_part};
@@ -8,7 +10,7 @@ use engine::run;
 use libc::STDOUT_FILENO;
 use text::write_listing;
 
-#[derive(Drop)]
+#[derive(Clone, Copy)]
 struct Head {
     table: usize,
     steps: usize,

@@ -1,6 +1,8 @@
 // The C interface (document 01, "The form each place needs": extern "C" run, leave question and line question on byte slices and
 // numbers), with the check and the view beside them. Each function hands its call on and repeats the equality of what it calls. A slice
 // is a pointer and a length in C; the view has offsets in the place of references.
+#![tactic(auto)]
+
 ghost use Rattle.std.specs.Prelude.{◌≡◌};
 ghost use Rattle.table.specs.Fault.{fault_of};
 ghost use Rattle.engine.specs.Ran.{outcome};
@@ -19,7 +21,7 @@ use view::{Looked, look};
 // The number of a run, the steps done and the stations now, and at 14 what holds the station: 2 its own bag, 3 the station `holder`; beside
 // any other number both are 0.
 #[repr(C)]
-#[derive(Drop)]
+#[derive(Clone, Copy)]
 pub struct StationLineRan {
     pub answer: u32,
     pub done: u32,
@@ -30,7 +32,7 @@ pub struct StationLineRan {
 
 // The number of a question, and 1 for yes; beside any number but 0 yes is 0.
 #[repr(C)]
-#[derive(Drop)]
+#[derive(Clone, Copy)]
 pub struct StationLineTold {
     pub answer: u32,
     pub yes: u32,
@@ -39,7 +41,7 @@ pub struct StationLineTold {
 // What a view of the table gives at a position: the check's number, 1 where there is a block, its offset in the table, and the next
 // position.
 #[repr(C)]
-#[derive(Drop)]
+#[derive(Clone, Copy)]
 pub struct StationLineViewed {
     pub answer: u32,
     pub has_block: u32,

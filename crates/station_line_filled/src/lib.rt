@@ -1,6 +1,8 @@
 // The C interface of the functions that fill a lent room or list (document 01, "The form each place needs": extern "C" on byte slices and
 // numbers). They are compiled apart from the run: a function that both call would no longer be made part of the run's loop. Each function
 // hands its call on and repeats the equality of what it calls.
+#![tactic(auto)]
+
 ghost use Rattle.std.specs.Prelude.{◌≡◌};
 ghost use Rattle.filling.specs.Filled.{filled_as};
 ghost use Rattle.next_steps.specs.Allowed.{allowed_in};

@@ -1,4 +1,6 @@
 // A step of 12 bytes, read and written (document 01, "The step list").
+#![tactic(auto)]
+
 ghost use Rattle.std.specs.Prelude.{◌≡◌, ◌++◌, ◌+◌, ◌*◌, ◌≤◌, length};
 ghost use Rattle.fields.specs.Fields.{place_of};
 ghost use Rattle.octets.specs.Bytes.{le16, le32, overwrite};

@@ -1,4 +1,6 @@
 // The printed listing as bytes (document 01, "The printed listing"; document 02, T-02 and T-05).
+#![tactic(auto)]
+
 mod stations;
 
 ghost use Rattle.std.specs.Prelude.{◌≡◌, true, [], ◌∷◌, ◌++◌, ◌+◌, ◌*◌, ◌/◌, ◌≤◌, length, take, drop};

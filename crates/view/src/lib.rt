@@ -1,5 +1,7 @@
 // The view (document 01, "The block"): "A console view holds the caller's table and walks it block by block without a copy". A position
 // counts blocks. The functions that do the work come first; those of the struct only take it apart and call them.
+#![tactic(auto)]
+
 ghost use Rattle.std.specs.Prelude.{◌≡◌};
 ghost use Rattle.view.specs.View.{shown_at, block_or_end, block_offset, address_past, next_position, viewed, Opens, moved};
 
@@ -7,7 +9,7 @@ use table::check;
 
 // What is to be seen at a position, in numbers: the check's number, whether there is a block, where it lies in the table, and the next
 // position.
-#[derive(Drop)]
+#[derive(Clone, Copy)]
 pub struct Looked {
     pub answer: u32,
     pub found: bool,
@@ -73,7 +75,7 @@ pub fn look(table: &[u8], position: usize) -> Looked
 // The view: the check's number, the bytes that it shows of the caller's table, which are none beside any number but 0, and a position in
 // them. What it shows and where it stands are not public, so that no other crate can make a view or change one: each is what `open_view`
 // has made of some table, moved on by `advance`.
-#[derive(Drop)]
+#[derive(Clone, Copy)]
 pub struct View<'a> {
     pub answer: u32,
     table: &'a [u8],

@@ -1,5 +1,7 @@
 // The view over stored tables, one accepted, with its blocks out of order, one that isn't, and the empty one (document 01, "The block"):
 // prints the check's number, the station numbers of the blocks in stored order, and the end as often as it is asked.
+#![tactic(auto)]
+
 use libc::STDOUT_FILENO;
 use view::{advance, current, open_view};
 

@@ -1,5 +1,7 @@
 // The texts of numbers, neighbours, marks and messages (document 01, "The printed listing"), each put into the room at an index. A writer
 // answers the index right behind what it put.
+#![tactic(auto)]
+
 ghost use Rattle.std.specs.Prelude.{◌≡◌, [], ◌∷◌, ◌++◌, ◌+◌, ◌≤◌, ◌<◌, length};
 ghost use Rattle.words.specs.Words.{digit, decimal, neighbour_text, mark_text, message_text};
 ghost use Rattle.words.specs.Writing.{Wrote};

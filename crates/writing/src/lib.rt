@@ -1,4 +1,6 @@
 // Writing a block: every byte of it, the check word last (document 01, "The block").
+#![tactic(auto)]
+
 ghost use Rattle.std.specs.Prelude.{◌≡◌, ◌++◌, ◌+◌, ◌-◌, ◌%◌, ◌≤◌, length};
 ghost use Rattle.bag.specs.Held.{held};
 ghost use Rattle.octets.specs.Bytes.{le16, le32, sum_words, overwrite};
