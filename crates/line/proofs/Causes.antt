@@ -81,6 +81,8 @@ module _ (line : Line) (ok : Accepted line) where
 
   at_refused : (s : Node) (a : Action) (r : Refusal) → CauseAt s a r → (act (leave_of line s) s a >>= commit line (number s)) ≡ refused r
   unfolding act commit
+  at_refused s a Malformed c = elim c [ ]
+  at_refused s a Absent c = elim c [ ]
   at_refused s a NotInBag c =
       act_refused s a NotInBag
       (ap (act (leave_of line s) s) c.1 ∙ require_false (holds c.0 s.bag) NotInBag _ (fails (holds c.0 s.bag) (λ t. c.2 (held_mem c.0 s.bag t))))
@@ -101,6 +103,8 @@ module _ (line : Line) (ok : Accepted line) where
     acted e = after_done _ e
 
     at_block : (r : Refusal) {s : Node} → Member s line → number s ≡ x.station → CauseAt s x.action r → Cause line x r
+    at_block Malformed {s = s} m e c = elim c [ ]
+    at_block Absent {s = s} m e c = elim c [ ]
     at_block NotInBag m e c = record { block = _; member = m; named = e; holds = c }
     at_block Staying m e c = record { block = _; member = m; named = e; holds = c }
     at_block (Held why) m e c = record { block = _; member = m; named = e; holds = c }

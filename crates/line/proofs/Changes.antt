@@ -126,6 +126,7 @@ module _ (n : ℕ) where
 
   pub mem_without : (line : Line) {t : Node} → Member t line → number t ≢ n → Member t (without n line)
   unfolding without
+  mem_without [] {t = t} m h = elim m [ ]
   mem_without (u ∷ line) {t} m h = go (eqb (number u) n) refl (Memᴰ.cases_cons m) (λ k. mem_without line k h)
     where
       go : (b : Bool) → eqb (number u) n ≡ b → (t ≡ u) ⊎ Member t line → (Member t line → Member t (without n line)) → Member t (cond b (without n line) (u ∷ without n line))

@@ -32,9 +32,12 @@ abbrev pub Each : {A : Type 0} → (A → Type 0) → List A → Type 0
 Each P [] = Unit {0}
 Each P (x ∷ l) = P x × Each P l
 
+each_at : {A : Type 0} (P : A → Type 0) (x : A) {l : List A} → Each P l → Memᴰ x l → P x
+each_at P x h (Memᴰ.head e) = subst P (sym e) h.0
+each_at P x h (Memᴰ.tail m) = each_at P x h.1 m
+
 pub each : {A : Type 0} (P : A → Type 0) {l : List A} → Each P l → (x : A) → Memᴰ x l → P x
-each P h x (Memᴰ.head e) = subst P (sym e) h.0
-each P h x (Memᴰ.tail m) = each P h.1 x m
+each P h x m = each_at P x h m
 
 pub situations_hold : SituationsHold
 unfolding accepted marks_hold in_range has_small_bag lies_beyond has_sides are_distinct is_present knows_neighbour knows_content names_present all any insert remove_first require ◌>>=◌ removal same precedes beyond side_of with_neighbour is_neighbour names is_empty holder_of leave_of unless_held send_to notice timeout meet introduced drop_neighbour removed received introduce_both act find change without replace with_message send_all has_room commit step try run situations

@@ -25,7 +25,7 @@ member_at [] i d h = absurd (not-suc-le-zero h)
 member_at (x ∷ l) zero d h = here refl
 member_at (x ∷ l) (suc i) d h = there (member_at l i d (le_of_suc-le-suc h))
 
-pub member_place : {A : Type 0} (d : A) {l : List A} {x : A} → Member x l → (i : ℕ) × (i < length l) × (get_or l i d ≡ x)
+pub member_place : {A : Type 0} (d : A) {x : A} {l : List A} → Member x l → (i : ℕ) × (i < length l) × (get_or l i d ≡ x)
 member_place d (here e) = (0, omega arith, sym e)
 member_place d (there m) = let w = member_place d m in (suc w.0, omega arith, w.2)
 

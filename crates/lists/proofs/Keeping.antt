@@ -23,6 +23,7 @@ module _ {A : Type 0} (f : A → Bool) where
 
   pub mem_kept : (l : List A) {x : A} → Member x l → f x ≡ true → Member x (keep f l)
   unfolding keep
+  mem_kept [] {x = x} m h = elim m [ ]
   mem_kept (y ∷ l) {x} m h = go (f y) refl (Memᴰ.cases_cons m) (λ k. mem_kept l k h)
     where
       go : (t : Bool) → f y ≡ t → (x ≡ y) ⊎ Member x l → (Member x l → Member x (keep f l)) → Member x (cond t (y ∷ keep f l) (keep f l))

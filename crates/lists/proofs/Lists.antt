@@ -41,7 +41,7 @@ fails true h = absurd (h refl)
 fails false h = refl
 
 module _ {A : Type 0} (f : A → Bool) where
-  pub all_true : {l : List A} {x : A} → all f l ≡ true → Member x l → f x ≡ true
+  pub all_true : {x : A} {l : List A} → all f l ≡ true → Member x l → f x ≡ true
   unfolding all
   all_true e (here {x = y} {xs = r} p) = rw p (and_both (f y) (all f r) e).0
   all_true e (there {x = y} {xs = r} m) = all_true (and_both (f y) (all f r) e).1 m
@@ -69,13 +69,13 @@ module _ {A : Type 0} (f : A → Bool) where
       go r (inl p) = (y, here refl, p)
       go r (inr p) = let w = r p in (w.0, there w.1, w.2)
 
-  pub true_any : {l : List A} {x : A} → Member x l → f x ≡ true → any f l ≡ true
+  pub true_any : {x : A} {l : List A} → Member x l → f x ≡ true → any f l ≡ true
   unfolding any
   true_any (here {x = y} {xs = r} p) e = rw (ap f (sym p) ∙ e) refl
   true_any (there {x = y} {xs = r} m) e = or_right (f y) (true_any m e)
 
   -- an element that passes is counted, and what is counted is there
-  pub counts_one : {l : List A} {x : A} → Member x l → f x ≡ true → 1 ≤ count f l
+  pub counts_one : {x : A} {l : List A} → Member x l → f x ≡ true → 1 ≤ count f l
   unfolding count
   counts_one (here {x = y} {xs = r} p) e = rw (ap f (sym p) ∙ e) (omega arith)
   counts_one (there {x = y} {xs = r} m) e = omega (arith, counts_one m e)
@@ -145,6 +145,7 @@ module _ {A : Type 0} (before : A → A → Bool) (a : A) where
 
   pub insert_keeps : {y : A} (l : List A) → Member y l → Member y (insert before a l)
   unfolding insert
+  insert_keeps {y = y} [] m = elim m [ ]
   insert_keeps {y} (x ∷ l) m = go (before x a) (Memᴰ.cases_cons m) (insert_keeps l)
     where
       go : (t : Bool) → (y ≡ x) ⊎ Member y l → (Member y l → Member y (insert before a l)) → Member y (cond t (x ∷ insert before a l) (a ∷ x ∷ l))
@@ -212,6 +213,7 @@ module _ {A : Type 0} (before : A → A → Bool) where
 
   pub mem-sort : (l : List A) {y : A} → Member y l → Member y (sort before l)
   unfolding sort
+  mem-sort [] {y = y} x' = elim x' [ ]
   mem-sort (x ∷ l) (here e) = rw e (insert_self before x (sort before l))
   mem-sort (x ∷ l) (there m) = insert_keeps before x (sort before l) (mem-sort l m)
 
@@ -277,6 +279,7 @@ module _ {A : Type 0} (f : A → Bool) where
 
   pub mem_removed : (l : List A) {y : A} → Member y l → (f y ≡ true) ⊎ Member y (remove_first f l)
   unfolding remove_first
+  mem_removed [] {y = y} m = elim m [ ]
   mem_removed (x ∷ l) {y} m = go (f x) refl (mem_removed l) (Memᴰ.cases_cons m)
     where
       go : (t : Bool) → f x ≡ t → (Member y l → (f y ≡ true) ⊎ Member y (remove_first f l)) → (y ≡ x) ⊎ Member y l → (f y ≡ true) ⊎ Member y (cond t l (x ∷ remove_first f l))

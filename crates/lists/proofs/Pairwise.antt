@@ -25,7 +25,7 @@ pairwise_map R S f g (x ∷ l) h = (λ y m. let w = map-mem f l m in subst (S (f
 
 module _ {A : Type 0} where
   -- a list without one of its elements: one element less, and all others are there
-  without_one : {l : List A} {x : A} → Member x l → (r : List A) × (length l ≡ suc (length r)) × ((y : A) → Member y l → x ≢ y → Member y r)
+  without_one : {x : A} {l : List A} → Member x l → (r : List A) × (length l ≡ suc (length r)) × ((y : A) → Member y l → x ≢ y → Member y r)
   without_one (here {x = z} {xs = r} e) = (r, refl, λ y m h. ⊎_elim (λ (p : y ≡ z). absurd (h (e ∙ sym p))) (λ k. k) (Memᴰ.cases_cons m))
   without_one (there {x = z} {xs = r} m) =
       let w = without_one m in

@@ -1,0 +1,12 @@
+use borrow.Author.Rules.{rules}
+use Prim.Native.Nat.{◌-◌}
+use lib.ListN.{length}
+use Rattle.allowed.proofs.Holding.{ChosenTo, chosen_none, chosen_small, chosen_room, chosen_next, chosen_all, chosen_size, chosen_few}
+use Rattle.allowed.proofs.bags.choose.Given as goal
+
+-- Of the first j stations those among the numbers are kept.
+abbrev pub invariant-loop-j : goal.invariant-loop-j
+invariant-loop-j l = ChosenTo l.index l.numbers l.j l.k l.kept
+
+abbrev pub decreases-loop-j : goal.decreases-loop-j
+decreases-loop-j l = length l.index - l.j

@@ -1,0 +1,12 @@
+use borrow.Author.Rules.{rules}
+use lib.ListN.{length}
+use Prim.Native.Nat.{◌-◌}
+use Rattle.allowed.proofs.Listing.{ListedTo, listed_none, listed_standing, listed_room, listed_next, listed_all}
+use Rattle.allowed.proofs.put_list.Given as goal
+
+-- The records of the first i stations are written.
+abbrev pub invariant-loop-i : goal.invariant-loop-i
+invariant-loop-i l = ListedTo l.initial.out l.table l.index l.counts l.i l.end l.out
+
+abbrev pub decreases-loop-i : goal.decreases-loop-i
+decreases-loop-i l = length l.index - l.i

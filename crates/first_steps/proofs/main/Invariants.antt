@@ -1,0 +1,12 @@
+use borrow.Author.Rules.{rules}
+use mathlib.Core.Path.{◌≡◌}
+use Prim.Native.Nat.{◌-◌, ◌≤◌}
+use lib.ListN.{length}
+use Rattle.first_steps.proofs.main.Given as goal
+
+-- At most 1,000 cases; the two rooms keep their lengths.
+abbrev pub invariant-loop-place : goal.invariant-loop-place
+invariant-loop-place l = (l.place ≤ 1001) × (length l.table ≡ 33280) × (length l.room ≡ 40000)
+
+abbrev pub decreases-loop-place : goal.decreases-loop-place
+decreases-loop-place l = 1001 - l.place

@@ -1,0 +1,12 @@
+use borrow.Author.Rules.{rules}
+use Prim.Native.Nat.{◌-◌}
+use Rattle.bag.proofs.Laws.{length_mapped}
+use Rattle.writing.proofs.WritingLaws.{PlacedTo, placed_none, placed_next, placed_all}
+use Rattle.writing.proofs.write_places.Given as goal
+
+-- The places of the first i messages are written.
+abbrev pub invariant-loop-i : goal.invariant-loop-i
+invariant-loop-i l = PlacedTo l.initial.room l.n l.messages l.room l.i
+
+abbrev pub decreases-loop-i : goal.decreases-loop-i
+decreases-loop-i l = l.n - l.i
