@@ -78,6 +78,7 @@ smaller_none a b h = go (eqb a 0) (eqb b 0) (ltb a b) refl refl h
 
 pub no_fault_of : (l : List (List ℕ)) {b : List ℕ} → smallest l ≡ 0 → Member b l → block.fault_of b ≡ 0
 unfolding smallest
+no_fault_of [] {b = b} h x'' = elim x'' [ ]
 no_fault_of (c ∷ l) h (here e) = ap block.fault_of e ∙ (smaller_none (block.fault_of c) (smallest l) h).0
 no_fault_of (c ∷ l) h (there m) = no_fault_of l (smaller_none (block.fault_of c) (smallest l) h).1 m
 

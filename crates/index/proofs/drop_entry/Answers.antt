@@ -1,0 +1,10 @@
+use borrow.Author.Rules.{rules}
+use Prim.Native.Nat.{◌-◌}
+use Rattle.lists.proofs.Dropping.{Shifted, shift_all, shift_next, shift_none}
+use Rattle.index.proofs.drop_entry.Goals as goal
+
+pub loop-j-preserved : goal.loop-j-preserved
+loop-j-preserved c = search (shift_next, rules)
+
+pub returns : goal.returns
+returns c = search (shift_all, rules)

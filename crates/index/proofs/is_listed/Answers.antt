@@ -1,0 +1,6 @@
+use borrow.Author.Rules.{rules}
+use Rattle.index.proofs.Entries.{is_listed}
+use Rattle.index.proofs.is_listed.Goals as goal
+
+pub returns : goal.returns
+returns c = search is_listed

@@ -1,0 +1,16 @@
+use borrow.Author.Rules.{rules}
+use Rattle.index.proofs.Halving.{Halved, halved_absent, halved_all, halved_found, halved_none, halved_upper, halved_lower}
+use mathlib.Core.Logic.{⊎_elim}
+use Rattle.index.proofs.lookup.Goals as goal
+
+pub returns-then-n-eq0 : goal.returns-then-n-eq0
+returns-then-n-eq0 c = search halved_none
+
+pub loop-size-preserved : goal.loop-size-preserved
+loop-size-preserved c = ⊎_elim (λ w. search halved_upper) (λ w. search halved_lower) c.if-entry-top.branch
+
+pub returns-then-lowest-number : goal.returns-then-lowest-number
+returns-then-lowest-number c = search halved_found
+
+pub returns-else-lowest-number : goal.returns-else-lowest-number
+returns-else-lowest-number c = search halved_absent

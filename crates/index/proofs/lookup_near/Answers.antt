@@ -1,0 +1,6 @@
+use borrow.Author.Rules.{rules}
+use Rattle.index.proofs.Halving.{near_found}
+use Rattle.index.proofs.lookup_near.Goals as goal
+
+pub returns-then-index-near : goal.returns-then-index-near
+returns-then-index-near c = search near_found

@@ -1,0 +1,14 @@
+use borrow.Author.Rules.{rules}
+use Prim.Native.Nat.{◌-◌}
+use Rattle.line.specs.Message.{introduction, same}
+use Rattle.block.proofs.Asking.{PlacesTo, places_none, places_next, places_found, places_all}
+use Rattle.leave.proofs.holders.introduces.Goals as goal
+
+pub loop-i-init : goal.loop-i-init
+loop-i-init c = search places_none
+
+pub returns-then-is_introduction : goal.returns-then-is_introduction
+returns-then-is_introduction c = search places_found
+
+pub loop-i-preserved : goal.loop-i-preserved
+loop-i-preserved c = search places_next

@@ -1,0 +1,9 @@
+use Rattle.rules.proofs.Ways.{dropped_none, dropped}
+use borrow.Author.Rules.{rules}
+use Rattle.rules.proofs.drop_neighbour.Goals as goal
+
+pub returns-in-None : goal.returns-in-None
+returns-in-None c = search dropped_none
+
+pub returns-in-Station : goal.returns-in-Station
+returns-in-Station c = search dropped

@@ -1,0 +1,9 @@
+use Rattle.rules.proofs.Ways.{nothing_introduced, one_introduced}
+use borrow.Author.Rules.{rules}
+use Rattle.rules.proofs.introduce_to.Goals as goal
+
+pub returns-in-None : goal.returns-in-None
+returns-in-None c = search nothing_introduced
+
+pub returns-in-Station : goal.returns-in-Station
+returns-in-Station c = search one_introduced

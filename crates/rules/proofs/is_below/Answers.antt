@@ -1,0 +1,9 @@
+use Rattle.rules.proofs.Ways.{below_none, below_station}
+use borrow.Author.Rules.{rules}
+use Rattle.rules.proofs.is_below.Goals as goal
+
+pub returns-in-None : goal.returns-in-None
+returns-in-None c = search below_none
+
+pub returns-in-Station : goal.returns-in-Station
+returns-in-Station c = search below_station

@@ -1,0 +1,9 @@
+use Rattle.rules.proofs.Ways.{equal_none, equal_station}
+use borrow.Author.Rules.{rules}
+use Rattle.rules.proofs.is_equal.Goals as goal
+
+pub returns-in-None : goal.returns-in-None
+returns-in-None c = search equal_none
+
+pub returns-in-Station : goal.returns-in-Station
+returns-in-Station c = search equal_station

@@ -1,0 +1,9 @@
+use Rattle.rules.proofs.Ways.{sent_none, sent_one}
+use borrow.Author.Rules.{rules}
+use Rattle.rules.proofs.send_to.Goals as goal
+
+pub returns-in-None : goal.returns-in-None
+returns-in-None c = search sent_none
+
+pub returns-in-Station : goal.returns-in-Station
+returns-in-Station c = search sent_one

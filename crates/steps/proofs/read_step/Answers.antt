@@ -1,0 +1,6 @@
+use borrow.Author.Rules.{rules}
+use Rattle.steps.proofs.Ways.{step_read}
+use Rattle.steps.proofs.read_step.Goals as goal
+
+pub returns : goal.returns
+returns c = search step_read

@@ -1,0 +1,6 @@
+use borrow.Author.Rules.{rules}
+use Rattle.steps.proofs.Writing.{fields_written}
+use Rattle.steps.proofs.write_fields.Goals as goal
+
+pub returns : goal.returns
+returns c = search fields_written

@@ -1,0 +1,6 @@
+use borrow.Author.Rules.{rules}
+use Rattle.writing.proofs.WritingLaws.{fields_written}
+use Rattle.writing.proofs.write_fields.Goals as goal
+
+pub returns : goal.returns
+returns c = search fields_written
