@@ -2,12 +2,13 @@ use borrow.Author.Rules.{rules}
 use Rattle.index.proofs.Halving.{Halved, halved_absent, halved_all, halved_found, halved_none, halved_upper, halved_lower}
 use mathlib.Core.Logic.{⊎_elim}
 use Rattle.index.proofs.lookup.Goals as goal
+use Rattle.index.proofs.lookup.Goals.{then-entry-top, else-entry-top}
 
 pub returns-then-n-eq0 : goal.returns-then-n-eq0
 returns-then-n-eq0 c = search halved_none
 
 pub loop-size-preserved : goal.loop-size-preserved
-loop-size-preserved c = ⊎_elim (λ w. search halved_upper) (λ w. search halved_lower) c.if-entry-top.branch
+loop-size-preserved c = elim c.if-entry-top.branch [ then-entry-top w ↦ search halved_upper | else-entry-top w ↦ search halved_lower ]
 
 pub returns-then-lowest-number : goal.returns-then-lowest-number
 returns-then-lowest-number c = search halved_found

@@ -6,4 +6,4 @@ use Rattle.octets.proofs.write_quad.Goals as goal
 pub returns : goal.returns
 returns c =
     let a = c.args in
-    cc (overwrite_next a.at (a.at + 2) (le16 (a.x % 65536)) (le16 (a.x / 65536)) a.room-1.now refl (omega arith))
+    cc (overwrite_next a.at (a.at + 2) (le16 (a.x % 65536)) (le16 (a.x / 65536)) a.room.now refl (omega arith))
