@@ -23,11 +23,11 @@ use Rattle.running.proofs.run_accepted.Given as goal
 
 abbrev pub invariant-loop-j : goal.invariant-loop-j
 invariant-loop-j l =
-    Asking (record { l.n = l.n; l.index = l.index; l.stations = l.stations; l.bags = l.bags; l.counts = l.counts }) l.station.number l.asked l.j
+    Asking (record { n = l.n; index = l.index; stations = l.stations; bags = l.bags; counts = l.counts }) l.station.number l.asked l.j
 
 abbrev pub invariant-loop-k : goal.invariant-loop-k
 invariant-loop-k l =
-    Underway l.table l.steps l.initial.room l.room l.total (record { l.n = l.n; l.index = l.index; l.stations = l.stations; l.bags = l.bags; l.counts = l.counts }) l.k
+    Underway l.table l.steps l.initial.room l.room l.total (record { n = l.n; index = l.index; stations = l.stations; bags = l.bags; counts = l.counts }) l.k
 
 abbrev pub decreases-loop-j : goal.decreases-loop-j
 decreases-loop-j l = l.asked - l.j
