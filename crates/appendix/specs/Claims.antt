@@ -1,4 +1,4 @@
--- The two lasting facts (document 02, T-07; the proofs are in proofs/, under the same names with hyphens), of the run over any bytes. `outcome`,
+-- The two lasting facts (document 02, T-07; the proofs are in proofs/, under the same names in snake case), of the run over any bytes. `outcome`,
 -- `is_in_line` and `may_leave` are the definitions in the contracts of the run and of the two questions, `steps_of` is the step list as the run
 -- reads it, and `table_in` the table that the run writes.
 use Rattle.std.specs.Prelude.{ℕ, ◌≤◌, ◌≡◌, ◌≢◌, ◌⊎◌, true, List, length}

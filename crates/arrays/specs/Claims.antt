@@ -1,4 +1,4 @@
--- What is proved of the arrays (the proofs are in proofs/, under the same names with hyphens).
+-- What is proved of the arrays (the proofs are in proofs/, under the same names in snake case).
 use Rattle.std.specs.Prelude.{ℕ, ◌*◌, ◌/◌, ◌≤◌, ◌≡◌, List, length, take}
 use mathlib.Core.List.{Memᴰ as Member}
 use Rattle.line.specs.Message.{capacity}

@@ -1,4 +1,4 @@
--- What is proved of the tests of a block (the proofs are in proofs/, under the same names with hyphens): each says what document 01 says of the
+-- What is proved of the tests of a block (the proofs are in proofs/, under the same names in snake case): each says what document 01 says of the
 -- bytes ("The block" and "The numbers a crew may see", 4, 5 and 7).
 use Rattle.std.specs.Prelude.{ℕ, ◌+◌, ◌*◌, ◌≤◌, ◌<◌, ◌≡◌, ◌↔◌, ◌⊎◌, ◌≢◌, true, false, List, get_or}
 use Rattle.line.specs.declared.Side.{Side}

@@ -1,4 +1,4 @@
--- What is proved of the delivery in the order of lemma 3's proof (the proofs are in proofs/, under the same names with hyphens). None of it has
+-- What is proved of the delivery in the order of lemma 3's proof (the proofs are in proofs/, under the same names in snake case). None of it has
 -- a premise, so that it holds of every accepted table, and of every other.
 use Rattle.std.specs.Prelude.{ℕ, ◌≡◌, ◌↔◌, true}
 use mathlib.Core.List.{Memᴰ as Member}

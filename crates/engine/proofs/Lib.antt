@@ -2,4 +2,3 @@
 pub mod WholeLists
 pub mod Before
 pub mod Written
-pub mod Refusing

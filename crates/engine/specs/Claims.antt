@@ -1,19 +1,11 @@
--- What is proved of runs over bytes (the proofs are in proofs/, under the same names with hyphens). The contract of `run` says that the
+-- What is proved of runs over bytes (the proofs are in proofs/, under the same names in snake case). The contract of `run` says that the
 -- code's answer and room are `outcome`; these claims are about that very definition.
-use Rattle.std.specs.Prelude.{ℕ, ◌*◌, ◌/◌, ◌%◌, ◌≤◌, ◌<◌, ◌≡◌, ◌↔◌, ◌⊎◌, ◌≢◌, true, List, [], ◌∷◌, ◌++◌, length, take, drop}
-use Rattle.refusals.specs.Refusals.{Refusal, ◌if◌, First}
-use Rattle.refusals.specs.Rooms.{Untouched}
-use Rattle.line.specs.declared.Step.{Step}
-use Rattle.line.specs.Answer.{ending_number, answer_number}
+use Rattle.std.specs.Prelude.{ℕ, ◌≡◌, ◌↔◌, List, length}
 use Rattle.line.specs.Node.{Present, Written}
 use Rattle.line.specs.Links.{Joined}
 use Rattle.line.specs.Alike.{Alike}
 use Rattle.table.specs.Blocks.{nodes}
-use Rattle.octets.specs.Bytes.{AreBytes}
 use Rattle.table.specs.Fault.{fault_of}
-use Rattle.table.specs.Refusals.{table_refusals}
-use Rattle.steps.specs.Steps.{step_bytes}
-use Rattle.steps.specs.Claims.{well_formed}
 use Rattle.engine.specs.Ran.{fault_before, outcome, table_in}
 use Rattle.finishing.specs.Ended.{Outcome, run_of}
 
@@ -53,45 +45,3 @@ abbrev pub WrittenReadsBack : Type 0
 WrittenReadsBack =
     (t steps room : List ℕ) → fault_before t steps room ≡ 0
     → (nodes (table_in (outcome t steps room)) ≡ (run_of t steps).line) × Written (run_of t steps).line
-
--- 4. What a run answers: the number of the first cause that applies (document 01, "The numbers a crew may see", 1 to 9), or how its steps ended.
-abbrev pub run_refusals : List ℕ → List ℕ → List ℕ → List Refusal
-run_refusals t steps room =
-    table_refusals t
-    -- "step list not a multiple of 12 bytes, or over 4,096 steps"
-    ++ (8 if ((length steps % 12 ≢ 0) ⊎ (4096 < length steps / 12))
-    -- "room shorter than the table read"
-    ∷ 9 if (length room < length t)
-    ∷ [])
-
-abbrev pub RunRefuses : Type 0
-RunRefuses =
-    (t steps room : List ℕ)
-    → First (run_refusals t steps room) (λ n. n ≡ ending_number (run_of t steps).ending) (answer_number (outcome t steps room).answer)
-
--- 5. The room: "bytes past the last block are not touched", and 1 to 9 return "0 steps, 0 stations", so that the "whole room" is as it was.
-abbrev pub RoomKept : Type 0
-RoomKept = (t steps room : List ℕ) → Untouched (512 * (outcome t steps room).stations) room (outcome t steps room).room
-
-abbrev pub RefusedCounts : Type 0
-RefusedCounts =
-    (t steps room : List ℕ) → 1 ≤ answer_number (outcome t steps room).answer → answer_number (outcome t steps room).answer ≤ 9
-    → ((outcome t steps room).done ≡ 0) × ((outcome t steps room).stations ≡ 0)
-
--- Its length beyond the table plays no part.
-abbrev pub AnyRoomServes : Type 0
-AnyRoomServes = (t steps room room' : List ℕ) → length t ≤ length room → length t ≤ length room' → SameOutcome (outcome t steps room) (outcome t steps room')
-
--- 6. The list: a run answered 0 has done every record of 12 bytes, and a run that stops at a record that is no step, and no other, is answered 10.
-abbrev pub AllDone : Type 0
-AllDone = (t steps room : List ℕ) → answer_number (outcome t steps room).answer ≡ 0 → length steps ≡ 12 * (outcome t steps room).done
-
--- "A step is malformed if its action or kind is none of these, its station is not 1 to 999,999, or its kind and number break these rules": record k
--- is in the list, and is what no well-formed step is written as
-abbrev pub MalformedAt : List ℕ → ℕ → Type 0
-MalformedAt steps k = (k < length steps / 12) × ((x : Step) → well_formed x ≡ true → step_bytes x ≢ take 12 (drop (12 * k) steps))
-
-abbrev pub TenExactly : Type 0
-TenExactly =
-    (t steps room : List ℕ) → AreBytes steps → fault_before t steps room ≡ 0
-    → (answer_number (outcome t steps room).answer ≡ 10) ↔ MalformedAt steps (outcome t steps room).done

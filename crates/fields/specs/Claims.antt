@@ -1,4 +1,4 @@
--- What is proved of the fields (the proofs are in proofs/, under the same names with hyphens): the tests say what document 01 says ("The block").
+-- What is proved of the fields (the proofs are in proofs/, under the same names in snake case): the tests say what document 01 says ("The block").
 use Rattle.std.specs.Prelude.{ℕ, ◌≤◌, ◌≡◌, ◌↔◌, ◌⊎◌, true}
 use Rattle.fields.specs.Fields.{place_of, is_good}
 

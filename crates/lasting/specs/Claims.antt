@@ -1,4 +1,4 @@
--- What is proved of lines in line (document 02, T-04; the proofs are in proofs/, under the same names with hyphens).
+-- What is proved of lines in line (document 02, T-04; the proofs are in proofs/, under the same names in snake case).
 use Rattle.std.specs.Prelude.{ℕ, ◌≡◌, List, map}
 use mathlib.Core.List.{Memᴰ as Member}
 use Rattle.line.specs.declared.Station as declared

@@ -1,4 +1,4 @@
--- What is proved of the definitions (the proofs are in proofs/, under the same names with hyphens).
+-- What is proved of the definitions (the proofs are in proofs/, under the same names in snake case).
 use Rattle.std.specs.Prelude.{ℕ, ◌≤◌, ◌≡◌, ◌↔◌, ◌≢◌, true, List, [], ◌∷◌, length}
 use mathlib.Core.List.{Memᴰ as Member}
 use Rattle.lists.specs.Numbers.{Rising}

@@ -1,4 +1,4 @@
--- What is proved of the mentions (the proofs are in proofs/, under the same names with hyphens).
+-- What is proved of the mentions (the proofs are in proofs/, under the same names in snake case).
 use Rattle.std.specs.Prelude.{ℕ, ◌≡◌, ◌↔◌, []}
 use Rattle.std.proofs.Math.Option.{none}
 use Rattle.line.specs.Nidec.{Nidec}

@@ -1,4 +1,4 @@
--- What is proved of the list (the proofs are in proofs/, under the same names with hyphens). The contract of `allowed` says that the code's
+-- What is proved of the list (the proofs are in proofs/, under the same names in snake case). The contract of `allowed` says that the code's
 -- answer and room are `allowed_in`; these claims are about that very definition.
 use Rattle.std.specs.Prelude.{ℕ, ◌*◌, ◌≤◌, ◌<◌, ◌≡◌, true, ◌↔◌, ◌⊎◌, List, length, take, drop}
 use Rattle.lists.specs.Numbers.{Pairwise}

@@ -1,4 +1,4 @@
--- What is proved of the program's definitions (the proofs are in proofs/, under the same names with hyphens). The contract of `list_files`
+-- What is proved of the program's definitions (the proofs are in proofs/, under the same names in snake case). The contract of `list_files`
 -- says that the code prints `program_text`; these claims are about that very definition.
 use Rattle.std.specs.Prelude.{ℕ, suc, ◌<◌, ◌≤◌, ◌≡◌, false, ◌↔◌, ◌⊎◌, ◌≢◌, List, length, take}
 use Rattle.line.specs.Answer.{answer_number}

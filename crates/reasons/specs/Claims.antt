@@ -1,4 +1,4 @@
--- What is proved of the reason that a run carries (document 02, T-02; the proofs are in proofs/, under the same names with hyphens). `outcome`
+-- What is proved of the reason that a run carries (document 02, T-02; the proofs are in proofs/, under the same names in snake case). `outcome`
 -- and `may_leave` are the definitions in the contracts of the run and of the leave question.
 use Rattle.std.specs.Prelude.{ℕ, ◌≡◌, ◌≢◌, List}
 use Rattle.line.specs.declared.Action.TheVariants.{Exit}

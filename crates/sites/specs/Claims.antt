@@ -1,4 +1,4 @@
--- What is proved of the site codes (document 02, T-05; the proofs are in proofs/, under the same names with hyphens). `outcome` is the
+-- What is proved of the site codes (document 02, T-05; the proofs are in proofs/, under the same names in snake case). `outcome` is the
 -- definition in the contract of the run.
 use Rattle.std.specs.Prelude.{ℕ, ◌≡◌, List, length}
 use mathlib.Core.List.{Memᴰ as Member}

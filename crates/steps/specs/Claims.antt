@@ -1,4 +1,4 @@
--- What is proved of a step's record (the proofs are in proofs/, under the same names with hyphens).
+-- What is proved of a step's record (the proofs are in proofs/, under the same names in snake case).
 use Rattle.std.specs.Prelude.{ℕ, ◌≡◌, Bool, true, ◌&&◌, List, length}
 use Rattle.line.specs.declared.Content.{Content}
 use Rattle.line.specs.declared.Content.TheVariants.{Introduction, RemoveLeft, RemoveRight}

@@ -1,4 +1,4 @@
--- What is proved of tables (the proofs are in proofs/, under the same names with hyphens).
+-- What is proved of tables (the proofs are in proofs/, under the same names in snake case).
 use Rattle.std.specs.Prelude.{ℕ, ◌≡◌, ◌↔◌, List, [], ◌∷◌, length}
 use Rattle.refusals.specs.Refusals.{Refuses}
 use Rattle.line.specs.Node.{Line, Written}

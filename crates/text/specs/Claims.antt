@@ -1,4 +1,4 @@
--- What is proved of the listing's definitions (the proofs are in proofs/, under the same names with hyphens).
+-- What is proved of the listing's definitions (the proofs are in proofs/, under the same names in snake case).
 use Rattle.std.specs.Prelude.{◌≡◌, [], ◌∷◌}
 use Rattle.line.specs.declared.Neighbour.TheVariants.{None, Station}
 use Rattle.line.specs.declared.Reason.TheVariants.{OwnBag, HeldBy}

@@ -1,4 +1,4 @@
--- What is proved of the view (the proofs are in proofs/Walks.antt, under the same names with hyphens).
+-- What is proved of the view (the proofs are in proofs/Walks.antt, under the same names in snake case).
 use Rattle.std.specs.Prelude.{ℕ, ◌+◌, ◌/◌, ◌≡◌, ◌≢◌, true, List, [], ◌++◌, length, take, drop, replicate}
 use Rattle.table.specs.Blocks.{blocks}
 use Rattle.table.specs.Fault.{fault_of}

@@ -1,4 +1,4 @@
--- What is proved of the texts' definitions (the proofs are in proofs/, under the same names with hyphens).
+-- What is proved of the texts' definitions (the proofs are in proofs/, under the same names in snake case).
 use Rattle.std.specs.Prelude.{ℕ, suc, ◌/◌, ◌%◌, ◌^◌, ◌<◌, ◌≤◌, ◌≡◌, cond, [], ◌∷◌, ◌++◌, ltb, length}
 use Rattle.words.specs.Words.{ascii, digit, decimal}
 

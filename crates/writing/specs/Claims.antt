@@ -1,4 +1,4 @@
--- What is proved of the definitions of a block (the proofs are in proofs/, under the same names with hyphens).
+-- What is proved of the definitions of a block (the proofs are in proofs/, under the same names in snake case).
 use Rattle.std.specs.Prelude.{ℕ, ◌≤◌, ◌≡◌, true, List, [], ◌∷◌, ◌++◌, length, take, drop, replicate}
 use mathlib.Core.List.{Memᴰ as Member}
 use Rattle.line.specs.declared.Neighbour.TheVariants.{None, Station}
