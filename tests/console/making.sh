@@ -2,8 +2,9 @@
 mkdir making && cd making || exit 1
 cp "$root/Makefile" . && mkdir crates examples tests bin include && cp "$root"/examples/* examples && cp "$root/tests/timed" tests
 cp "$root/include/station_line.h" include
-mkdir -p target/bin && printf '#!/bin/sh\ncat %q\n' "$root/crates/listing/stdout" > target/bin/listing
-chmod +x target/bin/listing
+mkdir -p crates/{low,middle,beside,high,listing,other} crates/listing/out
+printf '#!/bin/sh\ncat %q\n' "$root/crates/listing/stdout" > crates/listing/out/listing
+chmod +x crates/listing/out/listing
 # prover LINE..: an rt that runs these lines
 prover() {
     printf '%s\n' '#!/bin/bash' "$@" > bin/rt
@@ -22,9 +23,9 @@ for target in $targets; do
     holds "$target" grep -q "^make $target " <<< "$out"
 done
 end
-printf '%s\n' '# the lowest' low: 'high: middle' '# two' 'middle: low io' 'beside: low' 'listing: high beside libc' 'other: low' > crates.txt
+printf '%s\n' '# the lowest' low: 'high: middle' '# two' 'middle: low csv' 'beside: low' 'listing: high beside toml' 'other: low' > crates.txt
 listed='low middle beside high listing'
-prover '[ "$*" = "check listing" ] || exit 2' "for c in $listed; do echo \"noise about \$c\"; echo \"rt: \$c proved (1 s)\"; done" 'echo "rt: ok"'
+prover 'crate=${PWD##*/}' '[ "$crate $*" = "listing run" ] || [ "$*" = lib ] || exit 2' 'echo "noise about $crate"' 'echo "logic=proved functions=1"'
 RT_JOBS=1 made run
 group 'make run names each crate being proved, k of n'
 holds 'the listing' [ "$out" = "$(< "$root/crates/listing/stdout")" ]
@@ -34,13 +35,13 @@ holds 'what the prover says is kept' grep -q 'noise about high' target/run.log
 end
 RT_JOBS=2 made run
 holds 'make run names crates proved side by side' grep -qx 'make run: proving 2-3 of 5: middle beside' <<< "$err"
-prover 'echo "rt: low proved (1 s)"' 'echo "the reason why"' 'echo "rt: middle NOT PROVED (exit 1, 2 s)"' 'echo "rt: FAILED: middle"' 'exit 1'
+prover '[ "${PWD##*/}" = middle ] || exit 0' 'echo "the reason why"' 'echo "logic=not-proved"' 'exit 1'
 made run
 group 'make run tells why a crate is not proved'
 holds 'status' [ "$status" -ne 0 ]
 holds 'no listing' [ -z "$out" ]
 holds 'the reason' grep -qx 'the reason why' <<< "$err"
-holds 'the crate' grep -qx 'rt: middle NOT PROVED (exit 1, 2 s)' <<< "$err"
+holds 'the crate' grep -q '^make run: middle is not proved (rt ended with 1)' <<< "$err"
 holds 'where all of it is' grep -q 'target/run.log' <<< "$err"
 end
 prover 'echo "rt: a bad crates.txt" >&2' 'exit 2'

@@ -4,17 +4,16 @@ use mathlib.Core.Path.{◌≡◌, refl, sym, ap, ◌∙◌}
 use mathlib.Core.Logic.{◌↔◌, ◌⊎◌, ◌≢◌, inl, inr, ⊎_elim}
 use mathlib.Core.Bool.{Bool, true, false, cond, ◌&&◌, and-false}
 use mathlib.Core.List.Memᴰ
-use mathlib.Core.List.{List, [], ◌∷◌, ◌++◌}
+use mathlib.Core.List.{List, [], ◌∷◌}
 use mathlib.Core.List.Memᴰ.{head as here}
 use mathlib.Core.List.{Memᴰ as Member}
 use native.Mathlib.Nat.{le_of_suc-le-suc, eq-or-lt_of_le}
 use native.Mathlib.Omega.{arith}
-use lib.Dec.{eqb, ltb, leb}
+use lib.Dec.{eqb, leb}
 use lib.ListN.{length, drop, get_or, length-take}
 use lib.Seq.{get_or-take, get_or-drop}
-use borrow.Author.Tests.{eqb-true, eqb-false, eq-eqb, ne_eqb, leb-true, leb-false, le-leb, ltb-true, ltb-false, lt-ltb, le-ltb}
+use borrow.Author.Tests.{eqb-true, eqb-false, eq-eqb, leb-true, leb-false, le-leb}
 use Rattle.lists.proofs.Lists.{clash, both_and, fails}
-use Rattle.line.specs.declared.Neighbour.{Neighbour}
 use Rattle.line.specs.declared.Neighbour.TheVariants.{None, Station}
 use Rattle.line.specs.declared.Content.{Content}
 use Rattle.line.specs.declared.Content.TheVariants.{Introduction, RemoveLeft, RemoveRight}
@@ -22,21 +21,21 @@ use Rattle.line.specs.declared.Message.{Message}
 use Rattle.line.specs.declared.Side.{Side}
 use Rattle.line.specs.declared.Side.TheVariants.{Left, Right}
 use Rattle.line.specs.Message.{introduction, kind, carried}
-use Rattle.line.specs.Marks.{flags_hold, site_holds}
+use Rattle.line.specs.Marks.{flags_hold}
 use Rattle.line.specs.Node.{beyond}
 use Rattle.line.specs.Links.{Linked, by_neighbour, by_introduction}
-use Rattle.line.specs.Accepted.{in_range, lies_beyond, has_sides}
+use Rattle.line.specs.Accepted.{lies_beyond, has_sides}
 use Rattle.line.proofs.AcceptedTest.{in_range_lem}
 use Rattle.line.proofs.Sides.{none_station, station_inj, beyond_true, true_beyond}
 use Rattle.octets.specs.Bytes.{word, quad, part, all_zero}
 use Rattle.octets.proofs.Both.{and_left, and_right}
-use Rattle.fields.specs.Fields.{layout_holds, neighbour_holds, count_holds, place_of, is_good, message_of, neighbour_of}
+use Rattle.fields.specs.Fields.{neighbour_holds, place_of, message_of, neighbour_of}
 use Rattle.fields.specs.Claims.{Ranged, IsMessage}
 use Rattle.fields.proofs.Contents.{place_says}
 use Rattle.fields.proofs.Tested.{good_message, message_good}
 use Rattle.block.specs.Layout.{place_at, places_hold, messages, header_holds, rest_holds, fields_hold, station_of, node_of}
 use Rattle.block.specs.Claims.{InLayout, Misplaced, WrongSide, Names, FieldsTested, SidesTested, NamesLinked}
-use Rattle.block.proofs.FieldLaws.{FieldFacts, field_facts}
+use Rattle.block.proofs.FieldLaws.{field_facts}
 use Rattle.block.proofs.PlaceLaws.{good_below}
 
 -- none or a station number, of at most 999,999

@@ -1,16 +1,15 @@
 -- The test of a message place says what document 01 says of it.
 use Prim.Native.Nat.{ℕ}
-use mathlib.Core.Path.{◌≡◌, refl, sym, ◌∙◌}
+use mathlib.Core.Path.{◌≡◌, refl, sym}
 use mathlib.Core.Logic.{◌⊎◌, inl, inr}
 use mathlib.Core.Bool.{true}
 use Rattle.line.specs.declared.Content.{Content}
 use Rattle.line.specs.declared.Content.TheVariants.{Introduction, RemoveLeft, RemoveRight}
 use Rattle.line.specs.Message.{kind, carried}
-use Rattle.line.specs.Accepted.{in_range}
 use Rattle.line.proofs.AcceptedTest.{in_range_lem}
 use Rattle.fields.specs.Fields.{place_of, is_good, message_of}
 use Rattle.fields.specs.Claims.{Ranged, IsMessage, PlaceTested}
-use Rattle.fields.proofs.Contents.{Introduces, Says, place_says}
+use Rattle.fields.proofs.Contents.{Introduces, place_says}
 
 -- what a good place says of its content
 said : (k n : ℕ) (c : Content) → kind c ≡ k → carried c ≡ n → Introduces c → ((k ≡ 1) × Ranged n) ⊎ (((k ≡ 2) ⊎ (k ≡ 3)) × (n ≡ 0))

@@ -20,7 +20,7 @@ use Rattle.line.specs.Message.{introduction, removal}
 use Rattle.line.specs.Node.{Beyond, opposite, beyond, side_of, with_neighbour}
 use Rattle.line.specs.Accepted.{Sided}
 use Rattle.line.specs.Act.{Send, send as one, send_to, Reaction, unchanged, meet, introduced, drop_neighbour, removed, received}
-use Rattle.line.specs.Report.{Command, Id, −∞, +∞, process, less, remleft, Intro, mail, Process, p, left, right, always, intro, not_leaving, ◌below◌, ◌and◌, ◌⨾◌, if◌then◌, send◌to◌, left:=◌, right:=◌, exited, introduce, request, handle, left_id, right_id, variable, neighbour_of, node_of}
+use Rattle.line.specs.Report.{Command, Id, −∞, +∞, process, less, remleft, Intro, mail, Process, p, left, right, always, intro, not_leaving, ◌below◌, ◌and◌, ◌⨾◌, if◌then◌, send◌to◌, left:=◌, right:=◌, introduce, request, handle, left_id, right_id, variable, neighbour_of, node_of}
 use Rattle.line.proofs.Sides.{node, side_of_beyond, beyond_true, beyond_other}
 
 -- A process is seen from one side: X is its variable there, Y the other one.

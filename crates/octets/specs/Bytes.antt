@@ -1,5 +1,5 @@
 -- Little-endian integers, sums of words and zero bytes (document 01, "The block").
-use Rattle.std.specs.Prelude.{ℕ, ◌+◌, ◌-◌, ◌*◌, ◌/◌, ◌%◌, ◌<◌, Bool, true, ◌&&◌, List, [], ◌∷◌, ◌++◌, length, take, drop, ◌==◌, slice_index, slice_range}
+use Rattle.std.specs.Prelude.{ℕ, ◌+◌, ◌*◌, ◌/◌, ◌%◌, ◌<◌, Bool, true, ◌&&◌, List, [], ◌∷◌, ◌++◌, length, take, drop, ◌==◌, slice_index, slice_range}
 
 -- "Integers are little-endian": 16 and 32 bits at index i
 abbrev pub word : List ℕ → ℕ → ℕ

@@ -6,7 +6,7 @@ use mathlib.Core.Bool.{Bool, true, false, cond}
 use mathlib.Core.List.{List, [], ◌∷◌, ◌++◌}
 use lib.Dec.{eqb}
 use borrow.Author.Tests.{ne_eqb}
-use Rattle.refusals.specs.Refusals.{Refusal, ◌if◌, First, Refuses}
+use Rattle.refusals.specs.Refusals.{Refusal, First, Refuses}
 
 -- no refusal has the number 0, which says that there is none
 abbrev pub NoneZero : List Refusal → Type 0

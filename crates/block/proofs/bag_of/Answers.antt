@@ -1,7 +1,6 @@
 use borrow.Author.Rules.{rules}
-use Prim.Native.Nat.{◌-◌}
 use native.Mathlib.Omega.{arith}
-use Rattle.block.proofs.PlaceLaws.{RowTo, row_none, row_next, row_all}
+use Rattle.block.proofs.PlaceLaws.{row_none, row_next, row_all}
 use Rattle.block.proofs.bag_of.Goals as goal
 
 pub loop-i-init : goal.loop-i-init

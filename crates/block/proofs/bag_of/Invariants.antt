@@ -1,7 +1,5 @@
-use borrow.Author.Rules.{rules}
 use Prim.Native.Nat.{◌-◌}
-use native.Mathlib.Omega.{arith}
-use Rattle.block.proofs.PlaceLaws.{RowTo, row_none, row_next, row_all}
+use Rattle.block.proofs.PlaceLaws.{RowTo}
 use Rattle.block.proofs.bag_of.Given as goal
 
 -- The array has the messages of the first i places; a turn stores the next.

@@ -1,4 +1,3 @@
-use borrow.Author.Rules.{rules}
 use Rattle.block.proofs.Ways.{check_read}
 use Rattle.block.proofs.check_holds.Goals as goal
 

@@ -1,4 +1,3 @@
-use borrow.Author.Rules.{rules}
 use Rattle.block.proofs.Ways.{fault_read}
 use Rattle.block.proofs.fault_of.Goals as goal
 

@@ -1,4 +1,3 @@
-use borrow.Author.Rules.{rules}
 use Rattle.fields.proofs.Ways.{gap_filled, introduced, out_of_range, removal_numbered, left_removed, right_removed, no_kind}
 use Rattle.fields.proofs.place_of.Goals as goal
 

@@ -1,6 +1,5 @@
 use borrow.Author.Rules.{rules}
-use Prim.Native.Nat.{◌-◌}
-use Rattle.lists.proofs.Dropping.{Shifted, shift_all, shift_next, shift_none}
+use Rattle.lists.proofs.Dropping.{shift_all, shift_next}
 use Rattle.index.proofs.drop_entry.Goals as goal
 
 pub loop-j-preserved : goal.loop-j-preserved

@@ -1,6 +1,5 @@
-use borrow.Author.Rules.{rules}
 use Prim.Native.Nat.{◌-◌}
-use Rattle.lists.proofs.Dropping.{Shifted, shift_all, shift_next, shift_none}
+use Rattle.lists.proofs.Dropping.{Shifted}
 use Rattle.index.proofs.drop_entry.Given as goal
 
 abbrev pub invariant-loop-j : goal.invariant-loop-j

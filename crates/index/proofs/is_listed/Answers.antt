@@ -1,4 +1,3 @@
-use borrow.Author.Rules.{rules}
 use Rattle.index.proofs.Entries.{is_listed}
 use Rattle.index.proofs.is_listed.Goals as goal
 

@@ -1,6 +1,4 @@
-use borrow.Author.Rules.{rules}
-use Rattle.index.proofs.Halving.{Halved, halved_absent, halved_all, halved_found, halved_none, halved_upper, halved_lower}
-use mathlib.Core.Logic.{⊎_elim}
+use Rattle.index.proofs.Halving.{halved_absent, halved_found, halved_none, halved_upper, halved_lower}
 use Rattle.index.proofs.lookup.Goals as goal
 use Rattle.index.proofs.lookup.Goals.{then-entry-top, else-entry-top}
 

@@ -1,6 +1,4 @@
-use borrow.Author.Rules.{rules}
-use Rattle.index.proofs.Halving.{Halved, halved_absent, halved_all, halved_found, halved_none, halved_upper, halved_lower}
-use mathlib.Core.Logic.{⊎_elim}
+use Rattle.index.proofs.Halving.{Halved}
 use Rattle.index.proofs.lookup.Given as goal
 
 abbrev pub invariant-loop-size : goal.invariant-loop-size

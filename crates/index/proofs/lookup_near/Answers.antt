@@ -1,4 +1,3 @@
-use borrow.Author.Rules.{rules}
 use Rattle.index.proofs.Halving.{near_found}
 use Rattle.index.proofs.lookup_near.Goals as goal
 

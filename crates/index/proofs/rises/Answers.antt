@@ -1,7 +1,4 @@
-use borrow.Author.Rules.{rules}
-use Prim.Native.Nat.{◌-◌}
-use lib.ListN.{length}
-use Rattle.index.proofs.Entries.{RisesTo, rises_all, rises_begin, rises_more, rises_not}
+use Rattle.index.proofs.Entries.{rises_all, rises_more, rises_not}
 use Rattle.index.proofs.rises.Goals as goal
 
 pub returns-then-index-i : goal.returns-then-index-i

@@ -1,5 +1,4 @@
-use Rattle.std.proofs.Common.{◌≡◌, ◌+◌, ◌-◌, ◌%◌, ◌<◌, ◌≤◌, drop, arith, rules}
-use Rattle.octets.specs.Bytes.{sum_words}
+use Rattle.std.proofs.Common.{arith}
 use Rattle.octets.proofs.Sums.{sum_step, sum_end}
 use Rattle.octets.proofs.check_sum.Goals as goal
 

@@ -1,6 +1,5 @@
-use Rattle.std.proofs.Common.{◌≡◌, ◌+◌, ◌-◌, ◌%◌, ◌<◌, ◌≤◌, drop, arith, rules}
+use Rattle.std.proofs.Common.{◌≡◌, ◌+◌, ◌-◌, ◌%◌, ◌<◌, ◌≤◌, drop}
 use Rattle.octets.specs.Bytes.{sum_words}
-use Rattle.octets.proofs.Sums.{sum_step, sum_end}
 use Rattle.octets.proofs.check_sum.Given as goal
 
 -- The sum so far and the words that are left give the whole sum, modulo 65,536 (document 01, "The form each place needs").

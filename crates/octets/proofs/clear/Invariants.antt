@@ -1,6 +1,4 @@
-use borrow.Author.Fill.{fill_more}
-use Rattle.std.proofs.Common.{◌≡◌, ℕ, ◌-◌, ◌≤◌, List, ◌++◌, length, drop, set, replicate, ap, ◌∙◌, append-nil, arith, length-set, rules}
-use lib.Seq.{drop-length}
+use Rattle.std.proofs.Common.{◌≡◌, ◌-◌, ◌≤◌, ◌++◌, length, drop, replicate}
 use Rattle.octets.proofs.clear.Given as goal
 
 -- So many zero bytes, then the rest as it was.

@@ -1,4 +1,4 @@
-use Rattle.std.proofs.Common.{◌+◌, ◌/◌, ◌%◌, refl, arith, rules}
+use Rattle.std.proofs.Common.{◌+◌, ◌/◌, ◌%◌, refl, arith}
 use Rattle.octets.specs.Bytes.{le16}
 use Rattle.octets.proofs.Overwritten.{overwrite_next}
 use Rattle.octets.proofs.write_quad.Goals as goal

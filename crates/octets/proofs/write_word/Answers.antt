@@ -1,4 +1,4 @@
-use Rattle.std.proofs.Common.{add-one, arith, length-set, rules}
+use Rattle.std.proofs.Common.{add-one, arith}
 use Rattle.octets.proofs.Overwritten.{stored}
 use Rattle.octets.proofs.write_word.Goals as goal
 

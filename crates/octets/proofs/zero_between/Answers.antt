@@ -1,6 +1,6 @@
-use Rattle.std.proofs.Common.{◌≡◌, ◌-◌, ◌&&◌, sym, ◌∙◌, arith, rules}
+use Rattle.std.proofs.Common.{sym, ◌∙◌, arith}
 use mathlib.Core.Bool.{and_assoc, and-true}
-use Rattle.octets.specs.Bytes.{part, all_zero}
+use Rattle.octets.specs.Bytes.{all_zero}
 use Rattle.octets.proofs.Cuts.{zero_one, zero_none}
 use Rattle.octets.proofs.zero_between.Goals as goal
 

@@ -1,7 +1,5 @@
-use Rattle.std.proofs.Common.{◌≡◌, ◌-◌, ◌&&◌, sym, ◌∙◌, arith, rules}
-use mathlib.Core.Bool.{and_assoc, and-true}
+use Rattle.std.proofs.Common.{◌≡◌, ◌-◌, ◌&&◌}
 use Rattle.octets.specs.Bytes.{part, all_zero}
-use Rattle.octets.proofs.Cuts.{zero_one, zero_none}
 use Rattle.octets.proofs.zero_between.Given as goal
 
 -- What was tested so far and what is left decide together.

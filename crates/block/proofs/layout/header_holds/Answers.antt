@@ -1,4 +1,3 @@
-use borrow.Author.Rules.{rules}
 use Rattle.block.specs.Layout.{header_holds}
 use Rattle.block.proofs.layout.header_holds.Goals as goal
 

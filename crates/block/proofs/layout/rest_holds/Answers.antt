@@ -1,4 +1,3 @@
-use borrow.Author.Rules.{rules}
 use Rattle.block.specs.Layout.{rest_holds}
 use Rattle.block.proofs.layout.rest_holds.Goals as goal
 

@@ -1,4 +1,3 @@
-use borrow.Author.Rules.{rules}
 use Rattle.block.proofs.PlaceLaws.{place_read}
 use Rattle.block.proofs.places.place_at.Goals as goal
 

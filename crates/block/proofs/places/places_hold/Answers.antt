@@ -1,6 +1,4 @@
-use borrow.Author.Rules.{rules}
-use Prim.Native.Nat.{◌-◌}
-use Rattle.block.proofs.PlaceLaws.{GoodTo, good_none, good_next, good_not, good_all}
+use Rattle.block.proofs.PlaceLaws.{good_none, good_next, good_not}
 use Rattle.block.proofs.places.places_hold.Goals as goal
 
 pub loop-i-init : goal.loop-i-init

@@ -1,6 +1,5 @@
-use borrow.Author.Rules.{rules}
 use Prim.Native.Nat.{◌-◌}
-use Rattle.block.proofs.PlaceLaws.{GoodTo, good_none, good_next, good_not, good_all}
+use Rattle.block.proofs.PlaceLaws.{GoodTo}
 use Rattle.block.proofs.places.places_hold.Given as goal
 
 -- The places so far are good; the first bad one decides.

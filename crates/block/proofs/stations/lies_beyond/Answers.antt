@@ -1,4 +1,3 @@
-use borrow.Author.Rules.{rules}
 use Rattle.block.proofs.Ways.{beyond_none, beyond_station}
 use Rattle.block.proofs.stations.lies_beyond.Goals as goal
 

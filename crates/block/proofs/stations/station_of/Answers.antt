@@ -1,4 +1,3 @@
-use borrow.Author.Rules.{rules}
 use Rattle.block.proofs.Ways.{station_read}
 use Rattle.block.proofs.stations.station_of.Goals as goal
 

@@ -1,5 +1,4 @@
 use Rattle.line.proofs.Sides.{beyond_left, beyond_right}
-use borrow.Author.Rules.{rules}
 use Rattle.line.proofs.Side.beyond.Goals as goal
 
 pub returns-in-Left : goal.returns-in-Left
