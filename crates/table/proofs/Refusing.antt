@@ -1,20 +1,17 @@
 -- The check refuses a table by the first cause that applies.
 use Prim.Native.Nat.{ℕ, zero, suc, ◌/◌, ◌%◌, ◌<◌}
 use mathlib.Core.Path.{◌≡◌, refl, sym, ap, subst, ◌∙◌}
-use mathlib.Core.Logic.{◌↔◌, ◌⊎◌, ◌≢◌, inl, inr}
-use mathlib.Core.Bool.{Bool, true, false, cond, not, ◌&&◌}
+use mathlib.Core.Logic.{◌↔◌, ◌≢◌}
+use mathlib.Core.Bool.{Bool, true, false, not, ◌&&◌}
 use mathlib.Core.List.Memᴰ
 use mathlib.Core.List.{List, [], ◌∷◌, map}
-use mathlib.Core.List.Memᴰ.{head as here}
-use mathlib.Core.List.Memᴰ.{tail as there}
-use mathlib.Core.List.{Memᴰ as Member}
 use native.Mathlib.Omega.{arith}
-use lib.Dec.{eqb, leb}
+use lib.Dec.{eqb}
 use lib.ListN.{length, get_or, length-map}
 use borrow.Author.Tests.{eqb-true, eqb-false, ne_eqb, not-false, leb-true, leb-false}
 use Rattle.lists.specs.Lists.{all}
 use Rattle.lists.specs.Numbers.{Distinct, are_distinct}
-use Rattle.lists.proofs.Lists.{clash, fails, and_both, all_true, all_false, map-mem, mem-map}
+use Rattle.lists.proofs.Lists.{clash, fails, all_true, all_false, map-mem, mem-map}
 use Rattle.lists.proofs.Distinct.{are_distinct_lem}
 use Rattle.lists.proofs.Elements.{member_at, member_place, map_at}
 use Rattle.refusals.specs.Refusals.{Refusal, Refuses}

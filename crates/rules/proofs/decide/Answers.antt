@@ -1,5 +1,4 @@
 use Rattle.rules.proofs.Ways.{timeout_decides, delivery_decides, exit_decides}
-use borrow.Author.Rules.{rules}
 use Rattle.rules.proofs.decide.Goals as goal
 
 pub returns-in-Timeout : goal.returns-in-Timeout

@@ -1,5 +1,4 @@
 use Rattle.rules.proofs.Ways.{delivers, not_in_bag}
-use borrow.Author.Rules.{rules}
 use Rattle.rules.proofs.deliver.Goals as goal
 
 pub returns-then-found : goal.returns-then-found

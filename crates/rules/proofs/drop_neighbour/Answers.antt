@@ -1,5 +1,4 @@
 use Rattle.rules.proofs.Ways.{dropped_none, dropped}
-use borrow.Author.Rules.{rules}
 use Rattle.rules.proofs.drop_neighbour.Goals as goal
 
 pub returns-in-None : goal.returns-in-None

@@ -1,5 +1,4 @@
 use Rattle.rules.proofs.Ways.{exit_staying, exit_held, exits}
-use borrow.Author.Rules.{rules}
 use Rattle.rules.proofs.exit.Goals as goal
 
 pub returns-then-not-marks : goal.returns-then-not-marks

@@ -1,5 +1,4 @@
 use Rattle.rules.proofs.Ways.{no_left, no_right, both_introduced}
-use borrow.Author.Rules.{rules}
 use Rattle.rules.proofs.introduce_both.Goals as goal
 
 pub returns-in-None : goal.returns-in-None

@@ -1,5 +1,4 @@
 use Rattle.rules.proofs.Ways.{nothing_introduced, one_introduced}
-use borrow.Author.Rules.{rules}
 use Rattle.rules.proofs.introduce_to.Goals as goal
 
 pub returns-in-None : goal.returns-in-None

@@ -1,5 +1,4 @@
 use Rattle.rules.proofs.Ways.{introduced_itself, introduced_right, introduced_left}
-use borrow.Author.Rules.{rules}
 use Rattle.rules.proofs.introduced.Goals as goal
 
 pub returns-then-id-p : goal.returns-then-id-p

@@ -1,5 +1,4 @@
 use Rattle.rules.proofs.Ways.{on_below, on_equal, on_above}
-use borrow.Author.Rules.{rules}
 use Rattle.rules.proofs.introduced_on.Goals as goal
 
 pub returns-then-is_below : goal.returns-then-is_below

@@ -1,5 +1,4 @@
 use Rattle.rules.proofs.Ways.{below_none, below_station}
-use borrow.Author.Rules.{rules}
 use Rattle.rules.proofs.is_below.Goals as goal
 
 pub returns-in-None : goal.returns-in-None

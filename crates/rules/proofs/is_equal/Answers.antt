@@ -1,5 +1,4 @@
 use Rattle.rules.proofs.Ways.{equal_none, equal_station}
-use borrow.Author.Rules.{rules}
 use Rattle.rules.proofs.is_equal.Goals as goal
 
 pub returns-in-None : goal.returns-in-None

@@ -1,5 +1,4 @@
 use Rattle.rules.proofs.Ways.{notice_leaving, notice_staying}
-use borrow.Author.Rules.{rules}
 use Rattle.rules.proofs.notice.Goals as goal
 
 pub returns-then-marks : goal.returns-then-marks

@@ -1,5 +1,4 @@
 use Rattle.rules.proofs.Ways.{received_introduction, received_left, received_right}
-use borrow.Author.Rules.{rules}
 use Rattle.rules.proofs.received.Goals as goal
 
 pub returns-in-Introduction : goal.returns-in-Introduction

@@ -1,5 +1,4 @@
 use Rattle.rules.proofs.Ways.{removal_left, removal_right}
-use borrow.Author.Rules.{rules}
 use Rattle.rules.proofs.removal.Goals as goal
 
 pub returns-in-Left : goal.returns-in-Left

@@ -1,5 +1,4 @@
 use Rattle.rules.proofs.Ways.{removed_obeyed, removed_ignored}
-use borrow.Author.Rules.{rules}
 use Rattle.rules.proofs.removed.Goals as goal
 
 pub returns-then-obeys : goal.returns-then-obeys

@@ -1,5 +1,4 @@
 use Rattle.rules.proofs.Ways.{sent_none, sent_one}
-use borrow.Author.Rules.{rules}
 use Rattle.rules.proofs.send_to.Goals as goal
 
 pub returns-in-None : goal.returns-in-None

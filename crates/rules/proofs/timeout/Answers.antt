@@ -1,5 +1,4 @@
 use Rattle.rules.proofs.Ways.{timed_out}
-use borrow.Author.Rules.{rules}
 use Rattle.rules.proofs.timeout.Goals as goal
 
 pub returns : goal.returns

@@ -1,5 +1,4 @@
 use Rattle.rules.proofs.Ways.{with_left, with_right}
-use borrow.Author.Rules.{rules}
 use Rattle.rules.proofs.with_neighbour.Goals as goal
 
 pub returns-in-Left : goal.returns-in-Left

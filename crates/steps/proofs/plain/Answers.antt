@@ -1,4 +1,3 @@
-use borrow.Author.Rules.{rules}
 use Rattle.steps.proofs.Ways.{plain_kind, plain_number, plain_zero}
 use Rattle.steps.proofs.plain.Goals as goal
 

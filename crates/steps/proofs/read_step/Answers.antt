@@ -1,4 +1,3 @@
-use borrow.Author.Rules.{rules}
 use Rattle.steps.proofs.Ways.{step_read}
 use Rattle.steps.proofs.read_step.Goals as goal
 

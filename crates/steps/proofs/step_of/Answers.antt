@@ -1,4 +1,3 @@
-use borrow.Author.Rules.{rules}
 use Rattle.steps.proofs.Ways.{step_timeout, step_deliver, step_exit, step_other, out_of_range}
 use Rattle.steps.proofs.step_of.Goals as goal
 

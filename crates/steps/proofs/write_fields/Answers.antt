@@ -1,4 +1,3 @@
-use borrow.Author.Rules.{rules}
 use Rattle.steps.proofs.Writing.{fields_written}
 use Rattle.steps.proofs.write_fields.Goals as goal
 

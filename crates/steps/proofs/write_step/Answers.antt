@@ -1,4 +1,3 @@
-use borrow.Author.Rules.{rules}
 use Rattle.steps.proofs.Writing.{timeout_written, delivery_written, exit_written}
 use Rattle.steps.proofs.write_step.Goals as goal
 

@@ -1,4 +1,3 @@
-use borrow.Author.Rules.{rules}
 use Rattle.bag.proofs.Laws.{length_mapped}
 use Rattle.writing.proofs.WritingLaws.{block_written}
 use Rattle.writing.proofs.write_block.Goals as goal

@@ -1,4 +1,3 @@
-use borrow.Author.Rules.{rules}
 use Rattle.writing.proofs.WritingLaws.{fields_written}
 use Rattle.writing.proofs.write_fields.Goals as goal
 

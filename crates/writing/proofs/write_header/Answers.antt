@@ -1,4 +1,3 @@
-use borrow.Author.Rules.{rules}
 use Rattle.writing.proofs.WritingLaws.{header_written}
 use Rattle.writing.proofs.write_header.Goals as goal
 

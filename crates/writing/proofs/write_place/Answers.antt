@@ -1,4 +1,3 @@
-use borrow.Author.Rules.{rules}
 use Rattle.writing.proofs.WritingLaws.{place_written}
 use Rattle.writing.proofs.write_place.Goals as goal
 

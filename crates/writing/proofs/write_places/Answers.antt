@@ -1,7 +1,6 @@
 use borrow.Author.Rules.{rules}
-use Prim.Native.Nat.{◌-◌}
 use Rattle.bag.proofs.Laws.{length_mapped}
-use Rattle.writing.proofs.WritingLaws.{PlacedTo, placed_none, placed_next, placed_all}
+use Rattle.writing.proofs.WritingLaws.{placed_none, placed_next}
 use Rattle.writing.proofs.write_places.Goals as goal
 
 pub loop-i-init : goal.loop-i-init

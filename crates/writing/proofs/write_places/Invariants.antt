@@ -1,7 +1,5 @@
-use borrow.Author.Rules.{rules}
 use Prim.Native.Nat.{◌-◌}
-use Rattle.bag.proofs.Laws.{length_mapped}
-use Rattle.writing.proofs.WritingLaws.{PlacedTo, placed_none, placed_next, placed_all}
+use Rattle.writing.proofs.WritingLaws.{PlacedTo}
 use Rattle.writing.proofs.write_places.Given as goal
 
 -- The places of the first i messages are written.

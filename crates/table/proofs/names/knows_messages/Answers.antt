@@ -1,6 +1,5 @@
 use borrow.Author.Rules.{rules}
-use Prim.Native.Nat.{◌-◌}
-use Rattle.table.proofs.NameLaws.{KnownTo, known_all, known_next, known_none, known_not, known_place}
+use Rattle.table.proofs.NameLaws.{known_next, known_none, known_not, known_place}
 use Rattle.table.proofs.names.knows_messages.Goals as goal
 
 pub loop-i-init : goal.loop-i-init

@@ -1,4 +1,3 @@
-use borrow.Author.Rules.{rules}
 use Rattle.line.specs.Accepted.{names_present}
 use Rattle.block.specs.Layout.{node_of}
 use Rattle.table.proofs.names.knows_names.Goals as goal

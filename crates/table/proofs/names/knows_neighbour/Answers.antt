@@ -1,5 +1,4 @@
 use mathlib.Core.Path.{◌∙◌}
-use borrow.Author.Rules.{rules}
 use Rattle.line.specs.Accepted.{knows_neighbour}
 use Rattle.table.proofs.names.knows_neighbour.Goals as goal
 

@@ -1,4 +1,3 @@
-use borrow.Author.Rules.{rules}
 use Rattle.table.proofs.NameLaws.{place_listed, place_unlisted}
 use Rattle.table.proofs.names.knows_place.Goals as goal
 

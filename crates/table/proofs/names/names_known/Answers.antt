@@ -1,12 +1,8 @@
-use mathlib.Core.List.{map}
-use mathlib.Core.Path.{◌≡◌, refl, sym, ◌∙◌}
-use Prim.Native.Nat.{◌/◌, ◌-◌, ◌≤◌, ◌<◌}
+use mathlib.Core.Path.{refl, sym, ◌∙◌}
+use Prim.Native.Nat.{◌/◌, ◌<◌}
 use native.Mathlib.Omega.{arith}
-use lib.ListN.{drop, length}
-use borrow.Author.Rules.{rules}
+use lib.ListN.{length}
 use Rattle.lists.specs.Lists.{all}
-use Rattle.line.specs.Accepted.{names_present}
-use Rattle.block.specs.Layout.{node_of}
 use Rattle.table.specs.Blocks.{blocks, nodes}
 use Rattle.table.proofs.BlockLaws.{blocks_from, blocks_end, block_length, block_member, lent}
 use Rattle.table.proofs.FaultLaws.{no_fault_of}

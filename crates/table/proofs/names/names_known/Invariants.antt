@@ -1,15 +1,11 @@
 use mathlib.Core.List.{map}
-use mathlib.Core.Path.{◌≡◌, refl, sym, ◌∙◌}
-use Prim.Native.Nat.{◌/◌, ◌-◌, ◌≤◌, ◌<◌}
-use native.Mathlib.Omega.{arith}
-use lib.ListN.{drop, length}
-use borrow.Author.Rules.{rules}
+use mathlib.Core.Path.{◌≡◌}
+use Prim.Native.Nat.{◌-◌, ◌≤◌}
+use lib.ListN.{drop}
 use Rattle.lists.specs.Lists.{all}
 use Rattle.line.specs.Accepted.{names_present}
 use Rattle.block.specs.Layout.{node_of}
 use Rattle.table.specs.Blocks.{blocks, nodes}
-use Rattle.table.proofs.BlockLaws.{blocks_from, blocks_end, block_length, block_member, lent}
-use Rattle.table.proofs.FaultLaws.{no_fault_of}
 use Rattle.table.proofs.names.names_known.Given as goal
 
 -- What is left of the blocks decides. A block without a fault counts at most 32 messages.
