@@ -32,7 +32,7 @@ use Rattle.line.specs.Accepted.{Sided, Accepted}
 use Rattle.line.specs.Act.{Send, send_to, notice, timeout, received, introduce_both, Effect, kept, act}
 use Rattle.line.specs.Step.{find, change, replace, with_message, send_all, has_room, commit, step}
 use Rattle.line.specs.Report as report
-use Rattle.line.specs.Report.{process, is_process, remleft, remright, Intro, Req, mail, Process, p, left, right, intro, req, not_leaving, defined, ◌and◌, ◌⨾◌, if◌then◌, if◌then◌else◌, send◌to◌, exited, exit, handle, command, Guard, left_id, right_id, variable, process_of, node_of, state_after, Fires}
+use Rattle.line.specs.Report.{process, is_process, remleft, remright, Intro, Req, mail, Process, p, left, right, intro, req, not_leaving, defined, ◌and◌, ◌⨾◌, if◌then◌, if◌then◌otherwise◌, send◌to◌, exited, exit, handle, command, Guard, left_id, right_id, variable, process_of, node_of, state_after, Fires}
 use Rattle.line.specs.Claims.{WithinCapacity, ReportAgrees, Apart}
 use Rattle.lists.proofs.Lists.{fails, true_all}
 use Rattle.line.proofs.Answers.{done_inj, refused_done, require_true, require_false, required, may_leave_lem, unheld}
@@ -99,7 +99,7 @@ module _ (line : Line) (s : Node) (ok : Sided s) where
   state v = send_all v.sent (replace (number s) (node_of v) line)
 
   timeout_agrees : state_after line s Timeout ≡ send_all (timeout s.station) (replace (number s) (some s) line)
-  unfolding state state_after command report.timeout if◌then◌else◌ not_leaving timeout notice process_of node_of ◌⨾◌ send◌to◌ intro req p left right
+  unfolding state state_after command report.timeout if◌then◌otherwise◌ not_leaving timeout notice process_of node_of ◌⨾◌ send◌to◌ intro req p left right
   timeout_agrees = go s.station.marks.leaving refl
     where
       n : ℕ

@@ -124,9 +124,10 @@ infix 20 if◌then◌
 unfoldable pub if◌then◌ : Expression Bool → Command → Command
 if◌then◌ t c v = cond (t v) (c v) v
 
-infix 20 if◌then◌else◌
-unfoldable pub if◌then◌else◌ : Expression Bool → Command → Command → Command
-if◌then◌else◌ t c k v = cond (t v) (c v) (k v)
+-- the figure's `if .. then .. else`, whose name is the library's own
+infix 20 if◌then◌otherwise◌
+unfoldable pub if◌then◌otherwise◌ : Expression Bool → Command → Command → Command
+if◌then◌otherwise◌ t c k v = cond (t v) (c v) (k v)
 
 infix 30 send◌to◌
 unfoldable pub send◌to◌ : Expression Mail → Expression Id → Command
@@ -150,7 +151,7 @@ exited v = record { p = v.p; marks = v.marks; left = v.left; right = v.right; C 
 unfoldable pub timeout : Command
 timeout =
     if not_leaving then (send intro p to left ⨾ send intro p to right)
-    else (send req remleft to right ⨾ send req remright to left)
+    otherwise (send req remleft to right ⨾ send req remright to left)
 
 -- "introduce: intro ∈ p.C → receive intro(id)"
 unfoldable pub introduce : Expression Id → Command

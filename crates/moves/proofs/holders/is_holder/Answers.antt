@@ -1,5 +1,4 @@
-use borrow.Author.Rules.{rules}
-use Rattle.moves.proofs.Holding.{holder_bag, holder_itself, holder_left, holder_right}
+use Rattle.moves.proofs.Holding.{holder_bag, holder_left, holder_right}
 use Rattle.moves.proofs.holders.is_holder.Goals as goal
 
 pub returns-then-is_neighbour : goal.returns-then-is_neighbour

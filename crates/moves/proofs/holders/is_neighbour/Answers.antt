@@ -1,4 +1,3 @@
-use borrow.Author.Rules.{rules}
 use Rattle.moves.proofs.Holding.{neighbour_none, neighbour_same}
 use Rattle.moves.proofs.holders.is_neighbour.Goals as goal
 
