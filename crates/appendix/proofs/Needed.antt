@@ -2,7 +2,7 @@
 use Prim.Native.Nat.{ℕ}
 use mathlib.Core.Path.{◌≡◌, refl, sym, ap, ◌∙◌}
 use mathlib.Core.Logic.{◌≢◌}
-use mathlib.Core.Bool.{true, false, not}
+use mathlib.Core.Bool.{true, false}
 use mathlib.Core.List.Memᴰ
 use mathlib.Core.List.{List, [], ◌∷◌}
 use mathlib.Core.List.Memᴰ.{head as here}
@@ -11,7 +11,6 @@ use native.Mathlib.Omega.{arith}
 use Rattle.lists.specs.Lists.{all, sort}
 use Rattle.lists.specs.Numbers.{are_distinct}
 use Rattle.lists.specs.Places.{range}
-use Rattle.line.specs.declared.Reading.TheVariants.{Step}
 use Rattle.line.specs.declared.Step as declared
 use Rattle.line.specs.declared.Reason.TheVariants.{HeldBy}
 use Rattle.line.specs.declared.Leave.TheVariants.{May, MayNot}

@@ -75,6 +75,7 @@ module _ (actions : List Action) where
 
   has_each : (line : Line) (x : Step) → Present line x.station → Member x.action actions → Member x (each_with actions line)
   unfolding each_with
+  has_each [] x x4 k = elim x4 [ ]
   has_each (s ∷ line) x (here e) k =
       let is : x ≡ step_by s x.action = λ i. record { station = e i; action = x.action } in
       Memᴰ.append_left (each_with actions line) (Memᴰ.cast is (mem-map (step_by s) k))

@@ -65,7 +65,7 @@ all_few (s ∷ line) h =
     omega
     (arith, length-append (own_steps s) (all_steps line), map-length (step_by s) (bag_actions s.bag), bag_few s.bag (h s (here refl)), all_few line (λ t m. h t (there m)))
 
-own_all : {line : Line} {s : Node} {x : Step} → Member s line → Member x (own_steps s) → Member x (all_steps line)
+own_all : {s : Node} {line : Line} {x : Step} → Member s line → Member x (own_steps s) → Member x (all_steps line)
 unfolding all_steps
 own_all {x = x} (here {x = t} {xs = line} e) k = Memᴰ.append_left (all_steps line) (subst (λ (u : Node). Member x (own_steps u)) e k)
 own_all (there {x = t} {xs = line} m) k = Memᴰ.append_right (own_steps t) (own_all m k)

@@ -18,7 +18,7 @@ pub record ListingExample : Type 0 where
       listing_text (Ended Complete) 1 4 (staying 3 None (Station 5) [] ∷ staying 5 (Station 3) (Station 7) [] ∷ staying 7 None None (introduction 9 ∷ []) ∷ staying 9 (Station 5) None [] ∷ [])
       ≡ ascii "answer 0 done 1 stations 4\n3 - 5 stay\n5 3 7 stay\n7 - - stay i9\n9 5 - stay\n"
 
--- "the printed first line then ends in `bag`, or `held_by` and the station number" (document 02, T-02): 5 would leave and has a message in
+-- "the printed first line then ends in `bag`, or `held-by` and the station number" (document 02, T-02): 5 would leave and has a message in
 -- its bag; 5 would leave and is the right neighbour of 3.
 pub record ReasonExamples : Type 0 where
   pub own_bag :

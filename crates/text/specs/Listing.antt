@@ -14,7 +14,7 @@ use Rattle.words.specs.Words.{ascii, decimal, neighbour_text, mark_text, message
 unfoldable pub line_text : List (List ℕ) → List ℕ
 line_text words = parted words ++ (line_feed ∷ [])
 
--- "the printed first line then ends in `bag`, or `held_by` and the station number": at 14, and at no other number
+-- "the printed first line then ends in `bag`, or `held-by` and the station number": at 14, and at no other number
 abbrev pub reason_words : Reason → List (List ℕ)
 reason_words OwnBag = ascii "bag" ∷ []
 reason_words (HeldBy q) = ascii "held-by" ∷ decimal q ∷ []

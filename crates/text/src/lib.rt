@@ -15,7 +15,7 @@ use line::{Answered, Carried, Reason};
 use stations::put_line;
 use words::{put, put_named, put_word};
 
-// "the printed first line then ends in `bag`, or `held_by` and the station number" (document 02, T-02), with a space before each word.
+// "the printed first line then ends in `bag`, or `held-by` and the station number" (document 02, T-02), with a space before each word.
 fn put_reason(out: &mut [u8], at: usize, why: Reason) -> usize
     requires { at + 19 ≤ length out.old }
     ensures { Wrote out.old at (spaced (reason_words why)) result out.new × (result ≤ at + 19) }

@@ -1,7 +1,6 @@
-use borrow.Author.Rules.{rules}
 use lib.ListN.{length}
 use Prim.Native.Nat.{◌-◌}
-use Rattle.allowed.proofs.Listing.{ListedTo, listed_none, listed_standing, listed_room, listed_next, listed_all}
+use Rattle.allowed.proofs.Listing.{ListedTo}
 use Rattle.allowed.proofs.put_list.Given as goal
 
 -- The records of the first i stations are written.

@@ -1,4 +1,3 @@
-use borrow.Author.Rules.{rules}
 use Rattle.table.proofs.Lines.{slot_within}
 use Rattle.leave.proofs.Leaving.{holder_fits, leave_unread, leave_told}
 use Rattle.leave.proofs.leave_at.Goals as goal

@@ -1,4 +1,3 @@
-use borrow.Author.Rules.{rules}
 use Rattle.table.proofs.Lines.{numbers_rise}
 use Rattle.leave.proofs.Leaving.{leave_absent, leave_there}
 use Rattle.leave.proofs.leave_of.Goals as goal

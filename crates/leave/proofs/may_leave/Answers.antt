@@ -1,5 +1,4 @@
-use borrow.Author.Rules.{rules}
-use Rattle.table.proofs.Lines.{inspected_long, inspected_clean, inspected_index, inspected_size}
+use Rattle.table.proofs.Lines.{inspected_long, inspected_size}
 use Rattle.leave.proofs.Asking.{leave_refused, leave_accepted}
 use Rattle.leave.proofs.may_leave.Goals as goal
 

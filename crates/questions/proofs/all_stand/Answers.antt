@@ -1,8 +1,5 @@
-use borrow.Author.Rules.{rules}
-use Prim.Native.Nat.{◌-◌}
-use lib.ListN.{length}
 use Rattle.table.proofs.Lines.{slot_within}
-use Rattle.questions.proofs.Standing.{StandTo, stand_none, stand_next, stand_not, stand_all}
+use Rattle.questions.proofs.Standing.{stand_none, stand_next, stand_not, stand_all}
 use Rattle.questions.proofs.all_stand.Goals as goal
 
 pub loop-i-init : goal.loop-i-init

@@ -1,8 +1,6 @@
-use borrow.Author.Rules.{rules}
 use Prim.Native.Nat.{◌-◌}
 use lib.ListN.{length}
-use Rattle.table.proofs.Lines.{slot_within}
-use Rattle.questions.proofs.Standing.{StandTo, stand_none, stand_next, stand_not, stand_all}
+use Rattle.questions.proofs.Standing.{StandTo}
 use Rattle.questions.proofs.all_stand.Given as goal
 
 abbrev pub invariant-loop-i : goal.invariant-loop-i

@@ -1,5 +1,4 @@
-use borrow.Author.Rules.{rules}
-use Rattle.table.proofs.Lines.{inspected_long, inspected_clean, inspected_index, inspected_size}
+use Rattle.table.proofs.Lines.{inspected_long, inspected_size}
 use Rattle.questions.proofs.Asking.{line_refused, line_accepted}
 use Rattle.questions.proofs.in_line.Goals as goal
 

@@ -1,4 +1,3 @@
-use borrow.Author.Rules.{rules}
 use Rattle.questions.proofs.Standing.{both_none, none_some, some_none, both_some}
 use Rattle.questions.proofs.is_same.Goals as goal
 

@@ -1,4 +1,3 @@
-use borrow.Author.Rules.{rules}
 use Rattle.questions.proofs.Staying.{lasts_settled, lasts_not}
 use Rattle.questions.proofs.lasts.Goals as goal
 

@@ -1,4 +1,3 @@
-use borrow.Author.Rules.{rules}
 use Rattle.table.proofs.Lines.{slot_within}
 use Rattle.questions.proofs.Standing.{present_some, present_none}
 use Rattle.questions.proofs.present.Goals as goal

@@ -1,7 +1,5 @@
-use borrow.Author.Rules.{rules}
 use Prim.Native.Nat.{◌-◌}
-use native.Mathlib.Omega.{arith}
-use Rattle.text.proofs.Blocks.{LinesTo, lines_none, lines_next, lines_all, lent_length, lent_count}
+use Rattle.text.proofs.Blocks.{LinesTo}
 use Rattle.text.proofs.put_lines.Given as goal
 
 -- The lines of the first k blocks are written.

@@ -1,7 +1,6 @@
-use borrow.Author.Rules.{rules}
 use Prim.Native.Nat.{◌-◌}
 use lib.ListN.{length}
-use Rattle.words.proofs.Written.{WordTo, word_none, word_next, word_all}
+use Rattle.words.proofs.Written.{WordTo}
 use Rattle.words.proofs.put_word.Given as goal
 
 -- So many bytes of the word are written.

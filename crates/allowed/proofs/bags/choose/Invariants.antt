@@ -1,7 +1,6 @@
-use borrow.Author.Rules.{rules}
 use Prim.Native.Nat.{◌-◌}
 use lib.ListN.{length}
-use Rattle.allowed.proofs.Holding.{ChosenTo, chosen_none, chosen_small, chosen_room, chosen_next, chosen_all, chosen_size, chosen_few}
+use Rattle.allowed.proofs.Holding.{ChosenTo}
 use Rattle.allowed.proofs.bags.choose.Given as goal
 
 -- Of the first j stations those among the numbers are kept.

@@ -1,6 +1,5 @@
-use borrow.Author.Rules.{rules}
 use Prim.Native.Nat.{◌-◌}
-use Rattle.allowed.proofs.Holding.{KindsTo, kinds_none, kinds_next, kinds_all}
+use Rattle.allowed.proofs.Holding.{KindsTo}
 use Rattle.allowed.proofs.bags.has_kind.Given as goal
 
 -- The kinds of the first j places are asked.

@@ -1,6 +1,5 @@
-use borrow.Author.Rules.{rules}
 use Prim.Native.Nat.{◌-◌}
-use Rattle.allowed.proofs.Holding.{AmongTo, among_none, among_next, among_all}
+use Rattle.allowed.proofs.Holding.{AmongTo}
 use Rattle.allowed.proofs.bags.is_among.Given as goal
 
 -- The first j numbers are asked.

@@ -1,6 +1,5 @@
-use borrow.Author.Rules.{rules}
 use Prim.Native.Nat.{◌-◌}
-use Rattle.allowed.proofs.Holding.{NumbersTo, numbers_none, numbers_next, numbers_all}
+use Rattle.allowed.proofs.Holding.{NumbersTo}
 use Rattle.allowed.proofs.bags.numbers_of.Given as goal
 
 -- The numbers of the first j places are read.

@@ -1,10 +1,5 @@
-use borrow.Author.Rules.{rules}
-use mathlib.Core.Path.{refl, ◌∙◌}
 use Prim.Native.Nat.{◌+◌, ◌-◌}
-use Rattle.line.specs.declared.Side.TheVariants.{Left, Right}
-use Rattle.allowed.proofs.Holding.{removal_held}
-use Rattle.allowed.proofs.Verdicts.{standing_slot, standing_named}
-use Rattle.allowed.proofs.Putting.{PutTo, standing_clean, index_few, index_small, block_holds, chosen_held, chosen_whole, put_none, put_few, action_asked, put_asks, put_next, put_all}
+use Rattle.allowed.proofs.Putting.{PutTo}
 use Rattle.allowed.proofs.stations.put_station.Given as goal
 
 -- The records of the first k actions are written.

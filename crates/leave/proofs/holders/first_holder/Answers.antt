@@ -1,9 +1,5 @@
 use borrow.Author.Rules.{rules}
-use Prim.Native.Nat.{◌-◌}
-use lib.ListN.{length}
-use Rattle.table.specs.Blocks.{line_of}
 use Rattle.table.proofs.Lines.{slot_within, slot_count}
-use Rattle.moves.proofs.Holding.{NoneTo, none_yet}
 use Rattle.leave.proofs.Holding.{block_passed, block_holds, no_block_holds}
 use Rattle.leave.proofs.holders.first_holder.Goals as goal
 

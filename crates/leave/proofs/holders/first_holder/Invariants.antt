@@ -1,10 +1,7 @@
-use borrow.Author.Rules.{rules}
 use Prim.Native.Nat.{◌-◌}
 use lib.ListN.{length}
 use Rattle.table.specs.Blocks.{line_of}
-use Rattle.table.proofs.Lines.{slot_within, slot_count}
-use Rattle.moves.proofs.Holding.{NoneTo, none_yet}
-use Rattle.leave.proofs.Holding.{block_passed, block_holds, no_block_holds}
+use Rattle.moves.proofs.Holding.{NoneTo}
 use Rattle.leave.proofs.holders.first_holder.Given as goal
 
 abbrev pub invariant-loop-j : goal.invariant-loop-j

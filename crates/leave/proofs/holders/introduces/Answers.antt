@@ -1,7 +1,4 @@
-use borrow.Author.Rules.{rules}
-use Prim.Native.Nat.{◌-◌}
-use Rattle.line.specs.Message.{introduction, same}
-use Rattle.block.proofs.Asking.{PlacesTo, places_none, places_next, places_found, places_all}
+use Rattle.block.proofs.Asking.{places_none, places_next, places_found}
 use Rattle.leave.proofs.holders.introduces.Goals as goal
 
 pub loop-i-init : goal.loop-i-init

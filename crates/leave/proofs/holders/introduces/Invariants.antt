@@ -1,7 +1,6 @@
-use borrow.Author.Rules.{rules}
 use Prim.Native.Nat.{◌-◌}
 use Rattle.line.specs.Message.{introduction, same}
-use Rattle.block.proofs.Asking.{PlacesTo, places_none, places_next, places_found, places_all}
+use Rattle.block.proofs.Asking.{PlacesTo}
 use Rattle.leave.proofs.holders.introduces.Given as goal
 
 abbrev pub invariant-loop-i : goal.invariant-loop-i

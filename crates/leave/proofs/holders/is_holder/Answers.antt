@@ -1,4 +1,3 @@
-use borrow.Author.Rules.{rules}
 use Rattle.leave.proofs.Holding.{block_itself, block_left, block_right, block_introduces}
 use Rattle.leave.proofs.holders.is_holder.Goals as goal
 

@@ -1,4 +1,3 @@
-use borrow.Author.Rules.{rules}
 use Rattle.leave.proofs.Holding.{is_introduced_lem, is_remove_left, is_remove_right}
 use Rattle.leave.proofs.holders.is_introduction.Goals as goal
 

@@ -1,6 +1,5 @@
 use Prim.Native.Nat.{ℕ}
 use mathlib.Core.Path.{◌≡◌}
-use borrow.Author.Rules.{rules}
 use Rattle.line.specs.declared.Reason.{Reason}
 use Rattle.line.specs.declared.Leave.{Leave}
 use Rattle.line.specs.declared.Leave.TheVariants.{May, MayNot}

@@ -1,8 +1,6 @@
 use borrow.Author.Rules.{rules}
-use Prim.Native.Nat.{◌-◌}
-use lib.ListN.{length}
 use Rattle.table.proofs.Lines.{slot_within, slot_count}
-use Rattle.questions.proofs.Staying.{SettledTo, settled_none, settled_next, settled_not, settled_all}
+use Rattle.questions.proofs.Staying.{settled_none, settled_next, settled_not, settled_all}
 use Rattle.questions.proofs.settled.all_settled.Goals as goal
 
 pub loop-i-init : goal.loop-i-init

@@ -1,7 +1,6 @@
-use borrow.Author.Rules.{rules}
 use Prim.Native.Nat.{◌-◌}
 use Rattle.line.specs.Message.{is_removal}
-use Rattle.block.proofs.Asking.{PlacesTo, places_none, places_next, places_found, places_all}
+use Rattle.block.proofs.Asking.{PlacesTo}
 use Rattle.questions.proofs.settled.holds_removal.Given as goal
 
 abbrev pub invariant-loop-i : goal.invariant-loop-i

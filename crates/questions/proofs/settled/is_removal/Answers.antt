@@ -1,4 +1,3 @@
-use borrow.Author.Rules.{rules}
 use Rattle.questions.proofs.Staying.{not_removal, removes_left, removes_right}
 use Rattle.questions.proofs.settled.is_removal.Goals as goal
 

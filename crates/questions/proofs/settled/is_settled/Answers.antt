@@ -1,4 +1,3 @@
-use borrow.Author.Rules.{rules}
 use Rattle.questions.proofs.Staying.{block_settled}
 use Rattle.questions.proofs.settled.is_settled.Goals as goal
 

@@ -1,7 +1,5 @@
-use borrow.Author.Rules.{rules}
 use Prim.Native.Nat.{◌-◌}
-use native.Mathlib.Omega.{arith}
-use Rattle.text.proofs.Lines.{MessagesTo, messages_none, messages_next, messages_all}
+use Rattle.text.proofs.Lines.{MessagesTo}
 use Rattle.text.proofs.stations.put_messages.Given as goal
 
 -- The messages of the first i places are written.

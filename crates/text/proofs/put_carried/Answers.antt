@@ -1,0 +1,7 @@
+use native.Mathlib.Omega.{arith}
+use Rattle.text.proofs.Lines.{wrote_nothing}
+use Rattle.text.proofs.put_carried.Goals as goal
+
+-- Nothing, or the reason.
+pub returns-in-Nothing : goal.returns-in-Nothing
+returns-in-Nothing c = (search wrote_nothing, omega arith)
