@@ -1,5 +1,4 @@
-use borrow.Author.Rules.{rules}
-use Rattle.engine.proofs.Before.{run_ends, run_faulty, run_long, run_parted, run_short, run_clean, run_index}
+use Rattle.engine.proofs.Before.{run_ends, run_faulty, run_long, run_parted, run_short}
 use Rattle.engine.proofs.run.Goals as goal
 
 pub returns-then-fault-ne0 : goal.returns-then-fault-ne0

@@ -44,15 +44,19 @@ arrays_two c = record { n = c.loop-k.n; index = c.loop-k.index; stations = c.loo
 worked : (c : After-plan-plan) → Planned (arrays c) c.in-Step.step c.lookup-i.result c.bag_after-taken.result c.plan-plan.result
 worked c =
     planned_by c.in-Step.step c.lookup-i.result c.loop-k.invariant.between c.if-n-i.false c.lookup-i.ensures c.asked_of-asked.ensures c.loop-j.invariant
-    (elim c.loop-j-test.branch [ else-loop-j-test w ↦ inl w.loop-j-test.false
-    | then-loop-j-test+then-may_hold+then-is_holder w ↦ inr (w.loop-j-test.true, sym w.is_holder.ensures ∙ w.if-is_holder.true) ])
+    (elim c.loop-j-test.branch [
+      | else-loop-j-test w ↦ inl w.loop-j-test.false
+      | then-loop-j-test+then-may_hold+then-is_holder w ↦ inr (w.loop-j-test.true, sym w.is_holder.ensures ∙ w.if-is_holder.true)
+    ])
     c.leave_from-leave.ensures c.bag_after-taken.ensures c.plan-plan.ensures
 
 -- the arrays after the station's own store, and what each message that is sent makes of them
 own_stored : (c : Joined-taken) → OwnStored c.bag_after-taken.result.found (slot_of (arrays_taken c) c.lookup-i.result) c.bag_after-taken.result.bag (arrays_taken c) c.if-taken.bags c.if-taken.counts
 own_stored c =
-    elim c.if-taken.branch [ then-taken w ↦ own_taken _ c.bag_after-taken.result.bag (arrays_taken c) _ _ w.if-taken.true w.bags-is w.counts-is
-    | else-taken w ↦ own_untaken _ c.bag_after-taken.result.bag (arrays_taken c) _ _ w.if-taken.false w.bags-is w.counts-is ]
+    elim c.if-taken.branch [
+      | then-taken w ↦ own_taken _ c.bag_after-taken.result.bag (arrays_taken c) _ _ w.if-taken.true w.bags-is w.counts-is
+      | else-taken w ↦ own_untaken _ c.bag_after-taken.result.bag (arrays_taken c) _ _ w.if-taken.false w.bags-is w.counts-is
+    ]
 
 abbrev own : Arrays → (i : ℕ) → Plan → List (List Message) → List ℕ → Arrays
 own a i plan bags counts = with_bags (with_station a (slot_of a i) plan.decision.station) bags counts
@@ -62,16 +66,20 @@ own_one c = own (arrays_one c) c.lookup-i.result c.plan-plan.result c.if-taken.b
 
 first : (c : Joined-one) → Arrived c.plan-plan.result.decision.sendings.first c.plan-plan.result.first (own_one c) c.match-one.bags c.match-one.counts
 first c =
-    elim c.match-one.branch [ in-To w ↦ arrived_one _ _ (own_one c) _ _ _ _ w.in-To.is _ w.put_in-a_new.ensures w.bags-is w.counts-is
-    | in_default-one w ↦ arrived_none _ _ (own_one c) _ _ w.in_default-one.is w.bags-is w.counts-is ]
+    elim c.match-one.branch [
+      | in-To w ↦ arrived_one _ _ (own_one c) _ _ _ _ w.in-To.is _ w.put_in-a_new.ensures w.bags-is w.counts-is
+      | in_default-one w ↦ arrived_none _ _ (own_one c) _ _ w.in_default-one.is w.bags-is w.counts-is
+    ]
 
 abbrev first_two : Joined-two → Arrays
 first_two c = with_bags (own (arrays_two c) c.lookup-i.result c.plan-plan.result c.if-taken.bags c.if-taken.counts) c.match-one.bags c.match-one.counts
 
 second : (c : Joined-two) → Arrived c.plan-plan.result.decision.sendings.second c.plan-plan.result.second (first_two c) c.match-two.bags c.match-two.counts
 second c =
-    elim c.match-two.branch [ in-To-two w ↦ arrived_one _ _ (first_two c) _ _ _ _ w.in-To-two.is _ w.put_in-b_new.ensures w.bags-is w.counts-is
-    | in_default-two w ↦ arrived_none _ _ (first_two c) _ _ w.in_default-two.is w.bags-is w.counts-is ]
+    elim c.match-two.branch [
+      | in-To-two w ↦ arrived_one _ _ (first_two c) _ _ _ _ w.in-To-two.is _ w.put_in-b_new.ensures w.bags-is w.counts-is
+      | in_default-two w ↦ arrived_none _ _ (first_two c) _ _ w.in_default-two.is w.bags-is w.counts-is
+    ]
 
 -- the step is done: what was stored goes on
 going : (c : Joined-two) {after : Arrays} → after.n ≤ c.loop-k.n → (step (line_in (arrays_two c)) c.in-Step.step ≡ done (line_in after)) × BetweenSteps after
@@ -92,8 +100,10 @@ returns-then-n-i c =
 
 pub loop-j-preserved : goal.loop-j-preserved
 loop-j-preserved c =
-    elim c.if-may_hold.branch [ then-may_hold+else-is_holder w ↦ asking_next c.loop-j.invariant c.loop-j-test.true w.is_holder.ensures w.if-is_holder.false
-    | else-may_hold w ↦ search asking_plainly ]
+    elim c.if-may_hold.branch [
+      | then-may_hold+else-is_holder w ↦ asking_next c.loop-j.invariant c.loop-j-test.true w.is_holder.ensures w.if-is_holder.false
+      | else-may_hold w ↦ search asking_plainly
+    ]
 
 pub leave_from-leave-requires : goal.leave_from-leave-requires
 leave_from-leave-requires c = holder_fits c.loop-k.invariant.between _
