@@ -26,9 +26,12 @@ SONAME = libstation_line.so.$(firstword $(subst ., ,$(VERSION)))
 # The library for C, as an archive and as a shared library: the proved functions, and the words and the version in plain C.
 all: target/lib/libstation_line.a target/lib/libstation_line.so
 
-# Each of the two crates of the C interface is compiled by itself (docs/DECISIONS.md); then they are one archive.
-target/staticlib/lib%.a: crates.txt $(shell find crates -name '*.rt' -o -name '*.antt')
-	@rt staticlib $*
+# Each of the two crates of the C interface is proved and compiled by itself (docs/DECISIONS.md), after those that it stands on; then they
+# are one archive. The prover leaves it in the crate's folder.
+target/staticlib/lib%.a: crates.txt $(shell find crates -name out -prune -o \( -name '*.rt' -o -name '*.antt' \) -print)
+	@mkdir -p $(@D)
+	@cd crates/$* && rt lib
+	@cp crates/$*/out/lib$*.a $@
 
 target/staticlib/libstation_line_filled.a: | target/staticlib/libstation_line.a
 

@@ -1,10 +1,12 @@
-// What the programs over files of cases share: a part of such a file is read, a room is filled with one byte, and it is told whether it
+// What the programs over files of cases share: a file is read part by part, a room is filled with one byte, and it is told whether it
 // still holds nothing else.
 #![tactic(auto)]
 
-ghost use Rattle.io.specs.Counts.{IsPrefixLen};
+ghost use Rattle.std.specs.Prelude.{◌≡◌, length};
+ghost use Rattle.std.specs.Io.{ReadsAtMost};
 
-use libc::STDOUT_FILENO;
+use std::io;
+use std::io::Read;
 
 // Every byte becomes 165.
 pub fn fill(room: &mut [u8]) {
@@ -27,28 +29,42 @@ fn is_kept(rest: &[u8]) -> bool {
     true
 }
 
+// Reads until the room is full or the file ends, and returns how many bytes were put at the front of the room.
+pub fn read_full<R: Read>(file: &mut R, room: &mut [u8]) -> io::Result<usize>
+    ensures at_most { ReadsAtMost result room.new }
+    ensures size { length room.new ≡ length room.old }
+{
+    let mut done = 0;
+    while done < room.len() {
+        let n = file.read(&mut room[done..])?;
+        if n == 0 {
+            break;
+        }
+        done += n;
+    }
+    Ok(done)
+}
+
 // Reads n bytes into the front of the room; how many there were is returned, 0 where n is more than the room has.
-pub fn read_part(fd: i32, room: &mut [u8], n: usize) -> usize
-    ensures { IsPrefixLen result room.new }
+pub fn read_part<R: Read>(file: &mut R, room: &mut [u8], n: usize) -> io::Result<usize>
+    ensures at_most { ReadsAtMost result room.new }
+    ensures size { length room.new ≡ length room.old }
 {
     if room.len() < n {
-        return 0;
+        return Ok(0);
     }
-    io::read_full(fd, &mut room[..n])
+    read_full(file, &mut room[..n])
 }
 
 // The line with a case's place in the file.
-pub fn print_place(place: u64) {
-    io::write_all(STDOUT_FILENO, b"case ");
-    io::print_decimal(STDOUT_FILENO, place);
-    io::write_all(STDOUT_FILENO, b"\n");
+pub fn print_place(rt: &impl Print, place: u64) -> io::Result<()> {
+    println!(rt; "case {place}")
 }
 
 // Whether the bytes past what was written are as they were.
-pub fn print_rest(rest: &[u8]) {
+pub fn print_rest(rt: &impl Print, rest: &[u8]) -> io::Result<()> {
     if is_kept(rest) {
-        io::write_all(STDOUT_FILENO, b"rest kept\n");
-        return;
+        return println!(rt; "rest kept");
     }
-    io::write_all(STDOUT_FILENO, b"rest changed\n");
+    println!(rt; "rest changed")
 }

@@ -2,46 +2,44 @@
 // line is printed for each, its place in the file and the number that the check gives it.
 #![tactic(auto)]
 
-use libc::STDOUT_FILENO;
+use cases::read_full;
+use std::fs::File;
+use std::io;
+use std::io::Read;
 
 // The length of the next table; more than any table has where there is none.
-fn next_length(fd: i32) -> usize {
+fn next_length(file: &mut impl Read) -> io::Result<usize> {
     let mut head = [0u8; 4];
-    let got = io::read_full(fd, &mut head);
-    if got != 4 {
-        return 65536;
+    if read_full(file, &mut head)? != 4 {
+        return Ok(65536);
     }
-    octets::quad_at(&head, 0) as usize
+    Ok(octets::quad_at(&head, 0) as usize)
 }
 
 // Checks the next table, which is read into the room, and answers whether there was one.
-fn check_next(fd: i32, room: &mut [u8], place: u64) -> bool {
-    let n = next_length(fd);
+fn check_next(
+    rt: &impl Print,
+    file: &mut impl Read,
+    room: &mut [u8],
+    place: u64,
+) -> io::Result<bool> {
+    let n = next_length(file)?;
     if room.len() < n {
-        return false;
+        return Ok(false);
     }
-    let got = io::read_full(fd, &mut room[..n]);
+    let got = read_full(file, &mut room[..n])?;
     let number = table::check(&room[..n]);
-    io::print_decimal(STDOUT_FILENO, place);
-    io::write_all(STDOUT_FILENO, b" ");
-    io::print_decimal(STDOUT_FILENO, number as u64);
-    io::write_all(STDOUT_FILENO, b"\n");
-    got == n
+    println!(rt; "{place} {number}")?;
+    Ok(got == n)
 }
 
-fn main() {
-    let path = b"cases.bin";
-    let fd = os::open_read(path);
-    if fd < 0 {
-        os::fail(path);
-        return;
-    }
+fn main(rt: HostRuntime) -> io::Result<()> {
+    let mut file = File::open(&rt, "cases.bin")?;
     let mut room = [0u8; 40960];
-    let mut place = 1;
-    while place <= 1000 {
-        if !check_next(fd, &mut room, place) {
-            return;
+    for place in 1..=1000 {
+        if !check_next(&rt, &mut file, &mut room, place)? {
+            break;
         }
-        place += 1;
     }
+    Ok(())
 }

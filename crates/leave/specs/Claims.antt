@@ -1,4 +1,4 @@
--- What is proved of the question (the proof is in proofs/Meanings.antt, under the same name with hyphens).
+-- What is proved of the question (the proof is in proofs/Meanings.antt, under the same name in snake case).
 use Rattle.std.specs.Prelude.{ℕ, ◌≡◌, ◌↔◌, List}
 use mathlib.Core.List.{Memᴰ as Member}
 use Rattle.line.specs.declared.Leave.{Leave}

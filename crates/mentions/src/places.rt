@@ -9,6 +9,7 @@ use index::lookup;
 use line::{Content, Message, Neighbour};
 
 // Station q, which station p names: "no other station".
+#[tactic(auto, using(crate::proofs::Naming::place_itself))]
 fn other_place(index: &[u64], p: u32, q: u32) -> usize
     requires { Rising (numbers_in index.now) }
     ensures { result ≡ first_at (is_other p q) (numbers_in index.now) }

@@ -1,5 +1,9 @@
 // A file read into a buffer. No contract can say which bytes a file has; these say how much of the buffer was filled.
-ghost use Rattle.io.specs.Counts.{IsPrefixLen};
+ghost use Rattle.printing.specs.Counts.{IsPrefixLen};
+
+use std::io::Read;
+use std::rt::Files;
+use std::{fs, str};
 
 // Whether the file could be read, and how many bytes were read of it: all, or as many as the buffer holds.
 #[derive(Clone, Copy)]
@@ -8,22 +12,22 @@ pub struct Got {
     pub n: usize,
 }
 
+// What is known of a file that cannot be read.
+const UNREAD: Got = Got {
+    is_read: false,
+    n: 0,
+};
+
 // Reads until the buffer is full or the file ends. A read that fails is told apart from the end.
-fn read_whole(fd: i32, buf: &mut [u8]) -> Got
+fn read_whole<R: Read>(file: &mut R, buf: &mut [u8]) -> Got
     ensures { IsPrefixLen result.n buf.new }
 {
     let n = buf.len();
     let mut done: usize = 0;
     while done < n {
-        let rest = &mut buf[done..];
-        let got = libc::read(fd, rest);
-        if got < 0 {
-            return Got {
-                is_read: false,
-                n: 0,
-            };
-        }
-        let k = io::count(got, rest);
+        let Ok(k) = file.read(&mut buf[done..]) else {
+            return UNREAD;
+        };
         if k == 0 {
             break;
         }
@@ -35,18 +39,15 @@ fn read_whole(fd: i32, buf: &mut [u8]) -> Got
     }
 }
 
-// A file that cannot be opened cannot be read; a directory opens, and its first read fails.
-pub fn read_file(path: &[u8], buf: &mut [u8]) -> Got
+// A file that cannot be opened cannot be read, nor one whose path is no text; a directory opens, and its first read fails.
+pub fn read_file(rt: &impl Files, path: &[u8], buf: &mut [u8]) -> Got
     ensures { IsPrefixLen result.n buf.new }
 {
-    let fd = os::open_read(path);
-    if fd < 0 {
-        return Got {
-            is_read: false,
-            n: 0,
-        };
-    }
-    let got = read_whole(fd, buf);
-    libc::close(fd);
-    got
+    let Ok(path) = str::from_utf8(path) else {
+        return UNREAD;
+    };
+    let Ok(mut file) = fs::open(rt, path) else {
+        return UNREAD;
+    };
+    read_whole(&mut file, buf)
 }

@@ -5,15 +5,16 @@
 mod files;
 
 ghost use Rattle.std.specs.Prelude.{◌≡◌, ◌≤◌, length};
-ghost use Rattle.io.specs.Counts.{IsPrefixLen};
 ghost use Rattle.engine.specs.Ran.{outcome};
+ghost use Rattle.printing.specs.Counts.{IsPrefixLen};
 ghost use Rattle.printing.specs.Printed.{printed, Prints};
 ghost use Rattle.printing.specs.Program.{files_hold, program_room, program_text};
 
 use engine::run;
 use files::read_file;
-use libc::STDOUT_FILENO;
 use line::Answered;
+use std::io;
+use std::rt::Files;
 use text::write_listing;
 
 // "over 32,768 (table) or 49,152 (steps) bytes"
@@ -59,16 +60,18 @@ pub fn list_files(
     write_listing(out, Answered::Refused(16), 0, 0, table)
 }
 
-// Reads the two files, each up to one byte over its limit, and prints their listing. A program has no exit status, so a listing that cannot
-// be written is told on standard error.
-pub fn print_listing(table_path: &[u8], steps_path: &[u8]) {
+// Reads the two files, each up to one byte over its limit, and prints their listing. A listing that cannot be written is an error; a file
+// that cannot be read is none, since the listing tells of it.
+pub fn print_listing(
+    rt: &(impl Files + Print),
+    table_path: &[u8],
+    steps_path: &[u8],
+) -> io::Result<()> {
     let mut table = [0u8; TABLE_LIMIT + 1];
     let mut steps = [0u8; STEPS_LIMIT + 1];
-    let t = read_file(table_path, &mut table);
-    let s = read_file(steps_path, &mut steps);
+    let t = read_file(rt, table_path, &mut table);
+    let s = read_file(rt, steps_path, &mut steps);
     let mut out = [0u8; 40000];
     let n = list_files(t.is_read, &table[..t.n], s.is_read, &steps[..s.n], &mut out);
-    if !io::write_all(STDOUT_FILENO, &out[..n]) {
-        os::fail(b"standard output");
-    }
+    rt.write_all(&out[..n])
 }

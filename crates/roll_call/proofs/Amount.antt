@@ -36,6 +36,10 @@ module _ (fault n m : ℕ) where
       unfolding gate_of
       all_answered h = rw (eq-eqb fault 0 accepted, le-leb n 64 few, le-leb n m h)
 
+-- what the gate answers, for each way through its code
+pub ruleset gate_answers = (table_refused, too_many_lem, list_short, all_answered)
+
+module _ (fault n m : ℕ) where
   pub amount_within : ((gate_of fault n m).filled ≤ n) × ((gate_of fault n m).filled ≤ m)
   unfolding gate_of
   amount_within = go (eqb fault 0) (leb n 64) (leb n m) refl refl refl

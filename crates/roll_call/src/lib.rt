@@ -49,6 +49,7 @@ fn read_roll(table: &[u8]) -> Roll
 }
 
 // "It refuses with 1 to 7, then 17 for more than 64 questions, then 9 for a list shorter than the questions."
+#[tactic(auto, using(crate::proofs::Amount::gate_answers))]
 fn gate(roll: Roll, stations: usize, records: usize) -> Filled
     ensures { result ≡ gate_of roll.fault stations records }
 {

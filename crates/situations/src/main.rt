@@ -3,11 +3,13 @@
 // its place in the file is printed, the listing of its run, and whether the room past the table written is as it was.
 #![tactic(auto)]
 
-ghost use Rattle.std.specs.Prelude.{◌≤◌, length};
+ghost use Rattle.std.specs.Prelude.{◌≡◌, ◌≤◌, length, IfOk};
 
-use cases::{fill, print_place, print_rest, read_part};
+use cases::{fill, print_place, print_rest, read_full, read_part};
 use engine::run;
-use libc::STDOUT_FILENO;
+use std::fs::File;
+use std::io;
+use std::io::Read;
 use text::write_listing;
 
 #[derive(Clone, Copy)]
@@ -18,89 +20,99 @@ struct Head {
 }
 
 // The lengths of the next case; a table longer than any where there is none.
-fn next_head(fd: i32) -> Head {
+fn next_head(file: &mut impl Read) -> io::Result<Head> {
     let mut head = [0u8; 12];
-    let got = io::read_full(fd, &mut head);
-    if got != 12 {
-        return Head {
+    if read_full(file, &mut head)? != 12 {
+        return Ok(Head {
             table: 65536,
             steps: 0,
             room: 0,
-        };
+        });
     }
-    Head {
+    Ok(Head {
         table: octets::quad_at(&head, 0) as usize,
         steps: octets::quad_at(&head, 4) as usize,
         room: octets::quad_at(&head, 8) as usize,
-    }
+    })
 }
 
 // Runs the list and prints the listing; how much of the room the table written takes is returned.
-fn print_run(table: &[u8], steps: &[u8], room: &mut [u8], out: &mut [u8]) -> usize
+fn print_run(
+    rt: &impl Print,
+    table: &[u8],
+    steps: &[u8],
+    room: &mut [u8],
+    out: &mut [u8],
+) -> io::Result<usize>
     requires { 40000 ≤ length out.old }
-    ensures { result ≤ length room.new }
+    ensures at_most { IfOk result (λ n. n ≤ length room.new) }
+    ensures size { length room.new ≡ length room.old }
 {
     let ran = run(table, steps, room);
     let size = 512 * (ran.stations as usize);
     let answer = ran.answer;
     let end = write_listing(out, answer, ran.done, ran.stations, &room[..size]);
-    io::write_all(STDOUT_FILENO, &out[..end]);
-    size
+    rt.write_all(&out[..end])?;
+    Ok(size)
 }
 
 // One case, in a room of n bytes that the run gets. What lies behind them is compared as well.
-fn print_case(table: &[u8], steps: &[u8], room: &mut [u8], n: usize, out: &mut [u8])
+fn print_case(
+    rt: &impl Print,
+    table: &[u8],
+    steps: &[u8],
+    room: &mut [u8],
+    n: usize,
+    out: &mut [u8],
+) -> io::Result<()>
     requires { (n ≤ length room.old) × (40000 ≤ length out.old) }
 {
     fill(room);
-    let size = print_run(table, steps, &mut room[..n], out);
-    print_rest(&room[size..]);
+    let size = print_run(rt, table, steps, &mut room[..n], out)?;
+    print_rest(rt, &room[size..])
 }
 
 // Reads the next case and prints it; the answer is whether there was one.
 fn next_case(
-    fd: i32,
+    rt: &impl Print,
+    file: &mut impl Read,
     table: &mut [u8],
     steps: &mut [u8],
     room: &mut [u8],
     out: &mut [u8],
     place: u64,
-) -> bool
+) -> io::Result<bool>
     requires { 40000 ≤ length out.old }
 {
-    let head = next_head(fd);
+    let head = next_head(file)?;
     if room.len() < head.room {
-        return false;
+        return Ok(false);
     }
-    let a = read_part(fd, table, head.table);
+    let a = read_part(file, table, head.table)?;
     if a != head.table {
-        return false;
+        return Ok(false);
     }
-    let b = read_part(fd, steps, head.steps);
+    let b = read_part(file, steps, head.steps)?;
     if b != head.steps {
-        return false;
+        return Ok(false);
     }
-    print_place(place);
-    print_case(&table[..a], &steps[..b], room, head.room, out);
-    true
+    print_place(rt, place)?;
+    print_case(rt, &table[..a], &steps[..b], room, head.room, out)?;
+    Ok(true)
 }
 
-fn main() {
-    let path = b"cases.bin";
-    let fd = os::open_read(path);
-    if fd < 0 {
-        os::fail(path);
-        return;
-    }
+fn main(rt: HostRuntime) -> io::Result<()> {
+    let mut file = File::open(&rt, "cases.bin")?;
     let mut table = [0u8; 33280];
     let mut steps = [0u8; 49164];
     let mut room = [0u8; 40000];
     let mut out = [0u8; 40000];
-    let mut place = 1;
-    while place <= 1000 {
-        if !next_case(fd, &mut table, &mut steps, &mut room, &mut out, place) {
-            return;
+    for place in 1..=1000 {
+        if !next_case(
+            &rt, &mut file, &mut table, &mut steps, &mut room, &mut out, place,
+        )? {
+            break;
         }
-        place += 1;
     }
+    Ok(())
 }

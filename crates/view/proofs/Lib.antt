@@ -1,4 +1,3 @@
 -- Why a walk gives the blocks in stored order and then the end, and what the proofs of the view share.
 pub mod Sight
 pub mod Walks
-pub mod Apart

@@ -97,7 +97,7 @@ pub fn open_view<'a>(table: &'a [u8]) -> View<'a>
 
 // The block at the view's position, those 512 bytes of the caller's table; an empty part at the end.
 pub fn current<'a>(view: View<'a>) -> &'a [u8]
-    ensures { (result.now ≡ block_or_end view.entry.table.now view.entry.position) × (result.ref_ptr ≡ address_past view.entry.table.ptr (block_offset view.entry.table.now view.entry.position)) }
+    ensures { (result.now ≡ block_or_end view.entry.table.now view.entry.position) × (result.ref_ptr ≡ address_past view.entry.table.ref_ptr (block_offset view.entry.table.now view.entry.position)) }
 {
     block_from(view.table, view.position)
 }
