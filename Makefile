@@ -27,11 +27,11 @@ SONAME = libstation_line.so.$(firstword $(subst ., ,$(VERSION)))
 all: target/lib/libstation_line.a target/lib/libstation_line.so
 
 # Each of the two crates of the C interface is proved and compiled by itself (docs/DECISIONS.md), after those that it stands on; then they
-# are one archive. The prover leaves it in the crate's folder.
+# are one archive. NAME_c exports what NAME has, and the prover leaves it in the folder of NAME_c.
 target/staticlib/lib%.a: crates.txt $(shell find crates -name out -prune -o \( -name '*.rt' -o -name '*.antt' \) -print)
 	@mkdir -p $(@D)
-	@cd crates/$* && rt lib
-	@cp crates/$*/out/lib$*.a $@
+	@cd crates/$*_c && rt lib
+	@cp crates/$*_c/out/lib$*_c.a $@
 
 target/staticlib/libstation_line_filled.a: | target/staticlib/libstation_line.a
 

@@ -1,6 +1,6 @@
 // The C interface (document 01, "The form each place needs": extern "C" run, leave question and line question on byte slices and
 // numbers), with the check and the view beside them. Each function hands its call on and repeats the equality of what it calls. A slice
-// is a pointer and a length in C; the view has offsets in the place of references.
+// is a pointer and a length in C; the view has offsets in the place of references. `station_line_c` exports them.
 #![tactic(auto)]
 
 ghost use Rattle.std.specs.Prelude.{◌≡◌};
@@ -49,15 +49,13 @@ pub struct StationLineViewed {
     pub next: usize,
 }
 
-#[unsafe(no_mangle)]
-pub extern "C" fn station_line_check(table: &[u8]) -> u32
+pub fn station_line_check(table: &[u8]) -> u32
     ensures { result ≡ fault_of table.now }
 {
     check(table)
 }
 
-#[unsafe(no_mangle)]
-pub extern "C" fn station_line_run(table: &[u8], steps: &[u8], room: &mut [u8]) -> StationLineRan
+pub fn station_line_run(table: &[u8], steps: &[u8], room: &mut [u8]) -> StationLineRan
     ensures { (result ≡ ran_as (outcome table.now steps.now room.old)) × (room.new ≡ (outcome table.now steps.now room.old).room) }
 {
     let ran = run(table, steps, room);
@@ -82,15 +80,13 @@ fn told_as(told: Told) -> StationLineTold
     }
 }
 
-#[unsafe(no_mangle)]
-pub extern "C" fn station_line_may_leave(table: &[u8], station: u32) -> LeaveRecord
+pub fn station_line_may_leave(table: &[u8], station: u32) -> LeaveRecord
     ensures { result ≡ leave_as (may_leave table.now station) }
 {
     leave_as(may_leave(table, station))
 }
 
-#[unsafe(no_mangle)]
-pub extern "C" fn station_line_in_line(table: &[u8]) -> StationLineTold
+pub fn station_line_in_line(table: &[u8]) -> StationLineTold
     ensures { result ≡ told_as (is_in_line table.now) }
 {
     told_as(in_line(table))
@@ -108,8 +104,7 @@ fn viewed_as(looked: Looked) -> StationLineViewed
     }
 }
 
-#[unsafe(no_mangle)]
-pub extern "C" fn station_line_view(table: &[u8], position: usize) -> StationLineViewed
+pub fn station_line_view(table: &[u8], position: usize) -> StationLineViewed
     ensures { result ≡ viewed_as (viewed table.now position) }
 {
     viewed_as(look(table, position))
