@@ -55,6 +55,7 @@ pub fn station_line_check(table: &[u8]) -> u32
     check(table)
 }
 
+#[tactic(auto, unfolding(crate::specs::Interface::ran_as))]
 pub fn station_line_run(table: &[u8], steps: &[u8], room: &mut [u8]) -> StationLineRan
     ensures { (result ≡ ran_as (outcome table.now steps.now room.old)) × (room.new ≡ (outcome table.now steps.now room.old).room) }
 {
