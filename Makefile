@@ -38,7 +38,7 @@ target/staticlib/libstation_line_filled.a: | target/staticlib/libstation_line.a
 target/proved/libstation_line.a: target/staticlib/libstation_line.a target/staticlib/libstation_line_filled.a
 	@mkdir -p $(@D)
 	@cp $< $@.new
-	@cd $(@D) && $(AR) x ../staticlib/libstation_line_filled.a && $(AR) rs libstation_line.a.new station_line_filled.o
+	@cd $(@D) && $(AR) x ../staticlib/libstation_line_filled.a && $(AR) rs libstation_line.a.new station_line_filled_c.o
 	@mv $@.new $@
 
 target/lib/%.o: library/%.c $(HEADERS)
