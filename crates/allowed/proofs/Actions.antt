@@ -7,54 +7,15 @@ use native.Mathlib.Omega.{arith}
 use lib.Dec.{eqb, leb}
 use lib.ListN.{length, get_or, take, length-map, length-append, get_or-append}
 use lib.Seq.{get_or-take, get_or-append-add}
-use borrow.Author.Tests.{eq-eqb, ne_eqb, eqb-true, eqb-false, le-leb, lt-leb, leb-true, leb-false}
+use borrow.Author.Tests.{ne_eqb, eqb-true, eqb-false, leb-true, leb-false}
 use Rattle.lists.proofs.Elements.{map_at}
 use Rattle.line.specs.declared.Action.{Action}
-use Rattle.line.specs.declared.Action.TheVariants.{Timeout, Deliver, Exit}
+use Rattle.line.specs.declared.Action.TheVariants.{Deliver, Exit}
 use Rattle.line.specs.declared.Content.TheVariants.{Introduction, RemoveLeft, RemoveRight}
 use Rattle.line.specs.declared.Side.TheVariants.{Left, Right}
 use Rattle.line.specs.Message.{introduction, removal}
 use Rattle.next_steps.specs.Allowed.{messages_of, actions_of}
-use Rattle.allowed.specs.Parts.{action_with, found_with}
-
--- the five kinds of places, and what is found there
-module _ (q n k : ℕ) where
-  pub timeout_action : k ≡ 0 → Timeout ≡ action_with q n k
-  timeout_action e = rw (eq-eqb k 0 e)
-
-  module _ (h : k ≡ 0 → ⊥) where
-    pub introduction_action : k ≤ n → Deliver (record { content = Introduction q }) ≡ action_with q n k
-    introduction_action p = rw (ne_eqb k 0 h, le-leb k n p)
-
-    module _ (p : n < k) where
-      pub left_action : k ≡ n + 1 → Deliver (record { content = RemoveLeft }) ≡ action_with q n k
-      left_action e = rw (ne_eqb k 0 h, lt-leb k n p, eq-eqb k (n + 1) e)
-
-      module _ (f : k ≡ n + 1 → ⊥) where
-        pub right_action : k ≡ n + 2 → Deliver (record { content = RemoveRight }) ≡ action_with q n k
-        right_action e = rw (ne_eqb k 0 h, lt-leb k n p, ne_eqb k (n + 1) f, eq-eqb k (n + 2) e)
-
-        pub exit_action : (k ≡ n + 2 → ⊥) → Exit ≡ action_with q n k
-        exit_action e = rw (ne_eqb k 0 h, lt-leb k n p, ne_eqb k (n + 1) f, ne_eqb k (n + 2) e)
-
-module _ (n k : ℕ) (left right : Bool) where
-  pub timeout_found : k ≡ 0 → false ≡ found_with n k left right
-  timeout_found e = rw (eq-eqb k 0 e)
-
-  module _ (h : k ≡ 0 → ⊥) where
-    pub introduction_found : k ≤ n → true ≡ found_with n k left right
-    introduction_found p = rw (ne_eqb k 0 h, le-leb k n p)
-
-    module _ (p : n < k) where
-      pub left_found : k ≡ n + 1 → left ≡ found_with n k left right
-      left_found e = rw (ne_eqb k 0 h, lt-leb k n p, eq-eqb k (n + 1) e)
-
-      module _ (f : k ≡ n + 1 → ⊥) where
-        pub right_found : k ≡ n + 2 → right ≡ found_with n k left right
-        right_found e = rw (ne_eqb k 0 h, lt-leb k n p, ne_eqb k (n + 1) f, eq-eqb k (n + 2) e)
-
-        pub exit_found : (k ≡ n + 2 → ⊥) → false ≡ found_with n k left right
-        exit_found e = rw (ne_eqb k 0 h, lt-leb k n p, ne_eqb k (n + 1) f, ne_eqb k (n + 2) e)
+use Rattle.allowed.specs.Parts.{action_with}
 
 -- the actions by their places: b has the numbers of n introductions
 module _ (b : List ℕ) (n : ℕ) (long : n ≡ length (take n b)) (few : n ≤ 64) where

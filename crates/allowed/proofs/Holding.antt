@@ -1,13 +1,14 @@
 -- What the bag of an accepted block holds, by the kinds and the numbers of its places.
 use Prim.Native.Nat.{ℕ, zero, suc, ◌+◌, ◌-◌, ◌*◌, ◌≤◌, ◌<◌}
 use mathlib.Core.Path.{◌≡◌, refl, sym, ap, ap₂, ◌∙◌}
-use mathlib.Core.Bool.{Bool, true, false, cond, ◌||◌, or-false}
+use mathlib.Core.Bool.{Bool, true, false, ◌||◌, or-false}
 use mathlib.Core.List.{List, [], ◌∷◌, ◌++◌, append_assoc, append-nil}
 use native.Mathlib.Numerals.{add-one}
 use native.Mathlib.Omega.{arith}
 use lib.Dec.{eqb}
+use mir.Val.{bool_byte}
 use lib.ListN.{length, get_or, take, drop, set, replicate, length-set, take-append-drop, drop_of_length-le}
-use lib.Seq.{take-suc, take-suc-set, take-set-le, drop-set-lt, take_all, drop-drop, length-take-le}
+use lib.Seq.{take-suc, take-suc-set, take-set-le, drop-set-lt, drop-drop, length-take-le}
 use borrow.Author.Tests.{ne_eqb}
 use Rattle.lists.specs.Lists.{any, keep}
 use Rattle.lists.proofs.Lists.{any_append}
@@ -162,21 +163,14 @@ module _ {numbers : List ℕ} {q j : ℕ} {found : Bool} (so_far : AmongTo numbe
     is = rw (add-one j, take-suc numbers j 0 (omega (arith, so_far.size))) (ap (λ (t : Bool). t || eqb q (get_or numbers j 0)) so_far.is ∙ sym (any_one (eqb q) (take j numbers) (get_or numbers j 0)));
   }
 
-  pub among_all : 32 ≤ j → found ≡ any (eqb q) numbers
-  among_all h = so_far.is ∙ ap (any (eqb q)) (take_all j numbers (omega (arith, so_far.size)))
-
 -- of the first j stations of the index those among the numbers are kept, k of them
 pub record ChosenTo (index numbers : List ℕ) (j k : ℕ) (kept : List ℕ) : Type 0 where
   pub few : length index ≤ 64
   pub small : Small (numbers_in index)
-  pub lent : length numbers ≡ 32
   pub within : j ≤ length index
   pub fewer : k ≤ j
   pub size : length kept ≡ 64
   pub is : take k kept ++ keep (λ (q : ℕ). any (eqb q) numbers) (drop j (numbers_in index)) ≡ keep (λ (q : ℕ). any (eqb q) numbers) (numbers_in index)
-
-pub chosen_none : {index numbers : List ℕ} → length index ≤ 64 → Small (numbers_in index) → length numbers ≡ 32 → ChosenTo index numbers 0 0 (replicate 64 0)
-chosen_none f s l = record { few = f; small = s; lent = l; within = omega arith; fewer = omega arith; size = refl; is = refl }
 
 module _ {index numbers : List ℕ} {j k : ℕ} {kept : List ℕ} (so_far : ChosenTo index numbers j k kept) (h : j < length index) where
   long : j < length (numbers_in index)
@@ -188,14 +182,14 @@ module _ {index numbers : List ℕ} {j k : ℕ} {kept : List ℕ} (so_far : Chos
   pub chosen_room : k < 64
   chosen_room = omega (arith, so_far.fewer, so_far.few)
 
-  pub chosen_next : {q : ℕ} → q ≡ number_in (get_or index j 0) → {r : Bool} → r ≡ any (eqb q) numbers → {s : ℕ} → s ≡ cond r 1 0 → ChosenTo index numbers (j + 1) (k + s) (set kept k q)
+  pub chosen_next : {q : ℕ} → q ≡ number_in (get_or index j 0) → {r : Bool} → r ≡ any (eqb q) numbers → {s : ℕ} → s ≡ bool_byte r → ChosenTo index numbers (j + 1) (k + s) (set kept k q)
   unfolding keep
   chosen_next {q} e {r} f {s} g = go r refl g
     where
       from : drop j (numbers_in index) ≡ q ∷ drop (j + 1) (numbers_in index)
       from = drop_one (numbers_in index) 0 j long ∙ ap (λ (x : ℕ). x ∷ drop (j + 1) (numbers_in index)) (number_at index j ∙ sym e)
 
-      go : (t : Bool) → r ≡ t → s ≡ cond t 1 0 → ChosenTo index numbers (j + 1) (k + s) (set kept k q)
+      go : (t : Bool) → r ≡ t → s ≡ bool_byte t → ChosenTo index numbers (j + 1) (k + s) (set kept k q)
       go true p i =
           let w = so_far.fewer in
           let l = so_far.size in
@@ -203,7 +197,6 @@ module _ {index numbers : List ℕ} {j k : ℕ} {kept : List ℕ} (so_far : Chos
           record {
             few = so_far.few;
             small = so_far.small;
-            lent = so_far.lent;
             within = omega arith;
             fewer = omega arith;
             size = simp length-set l;
@@ -214,7 +207,6 @@ module _ {index numbers : List ℕ} {j k : ℕ} {kept : List ℕ} (so_far : Chos
           record {
             few = so_far.few;
             small = so_far.small;
-            lent = so_far.lent;
             within = omega arith;
             fewer = omega (arith, so_far.fewer);
             size = simp length-set so_far.size;

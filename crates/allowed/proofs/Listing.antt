@@ -9,15 +9,19 @@ use borrow.Author.Tests.{ne_eqb}
 use Rattle.line.specs.Node.{numbers}
 use Rattle.steps.specs.Steps.{list_bytes}
 use Rattle.steps.proofs.Records.{list_size}
-use Rattle.table.specs.declared.Inspected.{Inspected}
+use Rattle.std.specs.Prelude.{Ok, Err}
+use Rattle.line.specs.declared.Fault.{Fault}
+use Rattle.line.specs.Answer.{fault_number}
+use Rattle.line.proofs.Answers.{no_fault}
 use Rattle.table.specs.Blocks.{line_of}
 use Rattle.table.specs.Fault.{fault_of}
 use Rattle.table.specs.Index.{index_of, Inspects}
-use Rattle.table.proofs.Lines.{line_from, line_end, inspected_clean}
+use Rattle.table.proofs.Lines.{line_from, line_end, inspected_clean, inspected_refused}
 use Rattle.arrays.specs.Reading.{counts_of}
 use Rattle.words.specs.Writing.{Wrote}
 use Rattle.words.proofs.Written.{wrote_none, wrote_length, wrote_next, first_size, first_bytes}
-use Rattle.filling.specs.Filled.{Filling, refused_with, filled_with}
+use Rattle.filling.specs.Filled.{Filling, refused, filled_with, filled_as}
+use Rattle.filling.specs.declared.Filled.{Filled}
 use Rattle.next_steps.specs.Allowed.{actions_of, step_by, each_with, allowed_steps, allowed_in}
 use Rattle.next_steps.proofs.Few.{listed_few}
 use Rattle.allowed.specs.Parts.{node_at, Standing, offered, offered_by}
@@ -105,16 +109,16 @@ module _ {l t index counts : List ℕ} where
         rw (← is) so_far.wrote
 
 -- The table is checked first; then the list, made beside the room, fills it.
-module _ {t : List ℕ} {r : Inspected} (found : Inspects t r) where
-  pub allowed_refused : (r.fault ≡ 0 → ⊥) → (room : List ℕ) → refused_with r.fault room ≡ allowed_in t room
+module _ {t : List ℕ} where
+  pub allowed_refused : {f : Fault} → Inspects t (Err f) → (room : List ℕ) {r : Filled} → r ≡ refused f → filled_as r room ≡ allowed_in t room
   unfolding allowed_in
-  allowed_refused h room = let e = found.fault_is in rw (← e, ne_eqb r.fault 0 h)
+  allowed_refused {f} found room e = rw (e, inspected_refused found, ne_eqb (fault_number f) 0 (no_fault f))
 
-  pub allowed_filled : r.fault ≡ 0 → {l m : List ℕ} {end : ℕ} → Wrote l 0 (list_bytes (allowed_steps t)) end m
+  pub allowed_filled : {index : List ℕ} → Inspects t (Ok index) → {l m : List ℕ} {end : ℕ} → Wrote l 0 (list_bytes (allowed_steps t)) end m
       → (room : List ℕ) {f : Filling ℕ} → f ≡ filled_with (end / 12) (take end m) room → f ≡ allowed_in t room
   unfolding allowed_in
-  allowed_filled h {l} {m} {end} a room e =
+  allowed_filled found {l} {m} {end} a room e =
       let bytes : take end m ≡ list_bytes (allowed_steps t) =
       ap (take end) (first_bytes a) ∙ take_at (list_bytes (allowed_steps t)) (drop end l) end (sym (first_size a)) in
       let amount : end / 12 ≡ length (allowed_steps t) = omega (arith, first_size a, list_size (allowed_steps t)) in
-      e ∙ rw (inspected_clean found h, bytes, amount)
+      e ∙ rw (inspected_clean found, bytes, amount)

@@ -22,9 +22,6 @@ use Rattle.next_steps.specs.Allowed.{messages_of, actions_of, step_by, is_allowe
 use Rattle.allowed.specs.Parts.{offered}
 
 -- one step's record, or nothing
-pub record_fits : (l : List ℕ) (at : ℕ) {allowed : Bool} → allowed ≡ true → (allowed ≡ true → at + 12 ≤ length l) → at + 12 ≤ length l
-record_fits l at e h = h e
-
 module _ (x : Step) {allowed : Bool} {l : List ℕ} {at : ℕ} where
   pub record_put : allowed ≡ true → (allowed ≡ true → at + 12 ≤ length l) → {m : List ℕ} → m ≡ overwrite at (step_bytes x) l → Wrote l at (cond allowed (step_bytes x) []) (at + 12) m
   record_put e h f = rw e (record { ends = ap (λ (n : ℕ). at + n) (sym (step_size x)); fits = h e; holds = f })

@@ -1,5 +1,6 @@
 -- The records of the station at place i: those of its actions that are allowed, one behind another.
 use Prim.Native.Nat.{ℕ, ◌+◌, ◌%◌, ◌≤◌, ◌<◌}
+use Rattle.line.specs.Types.{Leave}
 use mathlib.Core.Path.{◌≡◌, refl, sym, ap, ◌∙◌}
 use mathlib.Core.Bool.{Bool, true, false, cond}
 use mathlib.Core.List.{List, [], ◌∷◌, ◌++◌, map, append_assoc, append-nil}
@@ -17,7 +18,6 @@ use Rattle.lists.proofs.Keeping.{kept_mem}
 use Rattle.line.specs.declared.Action.{Action}
 use Rattle.line.specs.declared.Action.TheVariants.{Timeout, Deliver, Exit}
 use Rattle.line.specs.declared.Content.TheVariants.{RemoveLeft, RemoveRight}
-use Rattle.line.specs.declared.Leave.{Leave}
 use Rattle.line.specs.declared.Message.{Message}
 use Rattle.line.specs.declared.Side.TheVariants.{Left, Right}
 use Rattle.line.specs.Message.{introduction, removal, same, precedes, holds}
@@ -128,9 +128,6 @@ module _ {l t index counts : List ℕ} {at i station : ℕ} {left right : Bool} 
   }
 
   module _ {end k : ℕ} {m : List ℕ} (so_far : PutTo l at t index counts i station left right leave n b end k m) where
-    pub put_few : n ≤ 64
-    put_few = so_far.few
-
     abbrev all : List Action
     all = actions_of (take n b)
 

@@ -1,5 +1,7 @@
 -- A step of the station at place i, judged from the blocks where they lie: as the run judges it over the arrays read from them.
 use Prim.Native.Nat.{ℕ, ◌-◌, ◌/◌, ◌≤◌, ◌<◌}
+use Rattle.std.specs.Prelude.{Ok, Err}
+use Rattle.line.specs.Types.{Leave}
 use mathlib.Core.Path.{◌≡◌, refl, sym, ap, ◌∙◌}
 use mathlib.Core.Bool.{Bool, true, false}
 use mathlib.Core.List.{List}
@@ -10,7 +12,6 @@ use Rattle.lists.specs.Places.{first_at}
 use Rattle.lists.specs.Numbers.{Rising}
 use Rattle.lists.proofs.Numbers.{first_at_lem}
 use Rattle.line.specs.declared.Action.{Action}
-use Rattle.line.specs.declared.Leave.{Leave}
 use Rattle.line.specs.declared.Refusal.{Refusal}
 use Rattle.line.specs.declared.Station as declared
 use Rattle.line.specs.Answer.{is_done}
@@ -28,7 +29,6 @@ use Rattle.arrays.specs.Arrays.{line_in}
 use Rattle.arrays.specs.Reading.{arrays_of}
 use Rattle.arrays.proofs.Lines.{slot_of}
 use Rattle.arrays.proofs.Tables.{filled_at, line_of_table}
-use Rattle.rules.specs.declared.Verdict.TheVariants.{Done, Refused}
 use Rattle.moves.specs.declared.Plan.{Plan}
 use Rattle.moves.specs.Sends.{Plans}
 use Rattle.effects.proofs.Starting.{starts_between}
@@ -99,8 +99,8 @@ module _ {t index counts : List ℕ} {i : ℕ} {l : Leave} {found : Bool} {a : A
     told : {r : Bool} → is_done (step (line_in (arrays_of t)) (step_by (node_at t i) a)) ≡ r → r ≡ is_allowed (line_of t) (step_by (node_at t i) a)
     told e = sym (ap (λ (l : Line). is_allowed l (step_by (node_at t i) a)) (sym (same_line s)) ∙ e)
 
-    pub is_done_lem : plan.verdict ≡ Done → true ≡ is_allowed (line_of t) (step_by (node_at t i) a)
+    pub is_done_lem : plan.verdict ≡ Ok tt → true ≡ is_allowed (line_of t) (step_by (node_at t i) a)
     is_done_lem e = told ((tells judged).0 e)
 
-    pub is_refused : (r : Refusal) → plan.verdict ≡ Refused r → false ≡ is_allowed (line_of t) (step_by (node_at t i) a)
+    pub is_refused : (r : Refusal) → plan.verdict ≡ Err r → false ≡ is_allowed (line_of t) (step_by (node_at t i) a)
     is_refused r e = told ((tells judged).1 r e)

@@ -1,12 +1,12 @@
 -- What the parts of the list's code ask of one another and leave behind; the list itself is `allowed_in` (crate next_steps).
 use Rattle.std.specs.Prelude.{ℕ, ◌+◌, ◌<◌, ◌≡◌, Bool, true, false, cond, List, map, eqb, leb, length, get_or}
+use Rattle.line.specs.Types.{Leave}
 use mathlib.Core.List.{Memᴰ as Member}
 use Rattle.lists.specs.Lists.{keep}
 use Rattle.line.specs.declared.Action.{Action}
 use Rattle.line.specs.declared.Action.TheVariants.{Timeout, Deliver, Exit}
 use Rattle.line.specs.declared.Content.TheVariants.{Introduction, RemoveLeft, RemoveRight}
 use Rattle.line.specs.declared.Message.{Message}
-use Rattle.line.specs.declared.Leave.{Leave}
 use Rattle.line.specs.declared.Step.{Step}
 use Rattle.line.specs.Message.{kind}
 use Rattle.line.specs.Node.{Node, Line, numbers, nobody}

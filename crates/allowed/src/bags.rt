@@ -1,6 +1,6 @@
 // What the bag of an accepted block holds, asked of the block where it lies: no message is moved, and none of the loops over a bag ends
 // early, so that none has a branch that nobody could foresee.
-ghost use Rattle.std.specs.Prelude.{◌≡◌, cond, ℕ, ◌<◌, ◌≤◌, eqb, length, take};
+ghost use Rattle.std.specs.Prelude.{◌≡◌, ℕ, ◌<◌, ◌≤◌, eqb, length, take};
 ghost use Rattle.lists.specs.Lists.{any, keep};
 ghost use Rattle.line.specs.Message.{introduction, holds};
 ghost use Rattle.index.specs.Index.{number_in, numbers_in};
@@ -23,10 +23,8 @@ pub(crate) fn numbers_of(b: &[u8]) -> [u32; 32]
 {
     let n = word_at(b, 16) as usize;
     let mut numbers = [0u32; 32];
-    let mut j = 0;
-    while j < n {
+    for j in 0..n {
         numbers[j] = quad_at(b, 24 + 8 * j);
-        j += 1;
     }
     numbers
 }
@@ -38,33 +36,21 @@ pub(crate) fn has_kind(b: &[u8], kind: u16) -> bool
 {
     let n = word_at(b, 16) as usize;
     let mut found = false;
-    let mut j = 0;
-    while j < n {
-        found = found | (kind == word_at(b, 20 + 8 * j));
-        j += 1;
+    for j in 0..n {
+        found |= kind == word_at(b, 20 + 8 * j);
     }
     found
 }
 
 // Whether q is one of the numbers.
-fn is_among(numbers: &[u32], q: u32) -> bool
-    requires { length numbers.now ≡ 32 }
+fn is_among(numbers: &[u32; 32], q: u32) -> bool
     ensures { result ≡ any (eqb q) numbers.now }
 {
     let mut found = false;
-    let mut j = 0;
-    while j < 32 {
-        found = found | (q == numbers[j]);
-        j += 1;
+    for number in numbers {
+        found |= q == *number;
     }
     found
-}
-
-// How far a place moves on: one where a number stays.
-fn one_if(stays: bool) -> usize
-    ensures { (result ≡ cond stays 1 0) × (result ≤ 1) }
-{
-    if stays { 1 } else { 0 }
 }
 
 // The station number of an entry of the index.
@@ -75,22 +61,20 @@ fn number_in(entry: u64) -> u32
     (entry / 64) as u32
 }
 
-// The stations of the index that are among the numbers, in its order.
-pub(crate) fn choose(index: &[u64], numbers: &[u32]) -> Chosen
-    requires { (length index.now ≤ 64) × Small (numbers_in index.now) × (length numbers.now ≡ 32) }
+// The stations of the index that are among the numbers, in its order. Each is stored, and the place moves on where it stays.
+pub(crate) fn choose(index: &[u64], numbers: &[u32; 32]) -> Chosen
+    requires { (length index.now ≤ 64) × Small (numbers_in index.now) }
     ensures { (take result.count result.numbers ≡ keep (λ (q : ℕ). any (eqb q) numbers.now) (numbers_in index.now)) × (result.count ≡ length (take result.count result.numbers)) × (result.count ≤ 64) }
 {
     let mut kept = [0u32; 64];
-    let mut k = 0;
-    let mut j = 0;
-    while j < index.len() {
-        let q = number_in(index[j]);
-        kept[k] = q;
-        k += one_if(is_among(numbers, q));
-        j += 1;
+    let mut count = 0;
+    for entry in index {
+        let q = number_in(*entry);
+        kept[count] = q;
+        count += usize::from(is_among(numbers, q));
     }
     Chosen {
         numbers: kept,
-        count: k,
+        count,
     }
 }

@@ -7,7 +7,6 @@ ghost use Rattle.allowed.specs.Parts.{node_at, Asked};
 use block::station_of;
 use line::{Action, Leave};
 use moves::sends::plan;
-use rules::Verdict;
 use table::block_at;
 
 // A step of the station at place i: what it decides, and whether those who receive have room. leave says whether it may leave, and found
@@ -26,10 +25,8 @@ pub(crate) fn is_allowed(
 {
     let own = (index[i] % 64) as usize;
     let station = station_of(block_at(table, own));
-    let plan = plan(index, counts, i, leave, found, station, action);
-    let verdict = plan.verdict;
-    match verdict {
-        Verdict::Done => true,
-        Verdict::Refused(_) => false,
+    match plan(index, counts, i, leave, found, station, action).verdict {
+        Ok(()) => true,
+        Err(_) => false,
     }
 }

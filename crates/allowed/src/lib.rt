@@ -25,10 +25,8 @@ fn put_list(out: &mut [u8], table: &[u8], index: &[u64]) -> usize
 {
     let counts = read_counts(table);
     let mut end = 0;
-    let mut i = 0;
-    while i < index.len() {
+    for i in 0..index.len() {
         end = put_station(out, end, table, index, &counts, i);
-        i += 1;
     }
     end
 }
@@ -38,15 +36,10 @@ fn put_list(out: &mut [u8], table: &[u8], index: &[u64]) -> usize
 pub fn allowed(table: &[u8], room: &mut [u8]) -> Filled
     ensures { filled_as result room.new ≡ allowed_in table.now room.old }
 {
-    let inspected = inspect(table);
-    let fault = inspected.fault;
-    if fault != 0 {
-        return Filled {
-            answer: fault,
-            filled: 0,
-        };
-    }
-    let index = inspected.index;
+    let index = match inspect(table) {
+        Ok(index) => index,
+        Err(fault) => return Filled::refused(fault),
+    };
     let n = table.len() / 512;
     let mut list = [0u8; 25344];
     let end = put_list(&mut list, table, &index[..n]);

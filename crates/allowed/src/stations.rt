@@ -93,13 +93,11 @@ pub(crate) fn put_station(
     let n = chosen.count;
     let introduced = chosen.numbers;
     let mut end = at;
-    let mut k = 0;
-    while k < n + 4 {
+    for k in 0..n + 4 {
         let action = action_of(introduced[(k + 63) % 64], n, k);
         let found = found_of(n, k, left, right);
         let allowed = is_allowed(table, index, counts, i, leave, found, action);
         end = put_if(out, end, allowed, Step { station, action });
-        k += 1;
     }
     end
 }

@@ -1,5 +1,6 @@
 -- The exit that comes later: the station still has its leaving mark, and NIDEC holds for it, so its exit is done or finds a bag full.
 use Prim.Native.Nat.{ℕ}
+use Rattle.std.specs.Prelude.{Ok}
 use mathlib.Core.Path.{◌≡◌, refl, sym, ap, ◌∙◌}
 use mathlib.Core.Logic.{◌⊎◌, inl, inr}
 use mathlib.Core.Bool.{Bool, true, false}
@@ -7,8 +8,6 @@ use mathlib.Core.List.{List, []}
 use mathlib.Core.List.{Memᴰ as Member}
 use Rattle.lists.specs.Lists.{all}
 use Rattle.line.specs.declared.Marks.{Marks}
-use Rattle.line.specs.declared.Leave.TheVariants.{May}
-use Rattle.line.specs.declared.Reading.TheVariants.{Step}
 use Rattle.line.specs.declared.Refusal.TheVariants.{Full}
 use Rattle.line.specs.Answer.{done, ◌>>=◌, require, unless_held, ending_number}
 use Rattle.line.specs.Node.{Node, Line, number, leaving, in_written_order}
@@ -54,7 +53,7 @@ module _ (line : Line) (n : ℕ) (ok : Accepted line) (b : NidecAt n line) (goes
   exit_is =
       let s = b.block in
       let finds = member_found n line ok.distinct b.member b.named in
-      let may : leave_of line s ≡ May = (leave_tested line s May).1 b.holds in
+      let may : leave_of line s ≡ (Ok tt) = (leave_tested line s (Ok tt)).1 b.holds in
       rw (finds, may, goes) refl
 
   exited : (t : Bool) → Exited (ending_number (next line [] (require t Full (done after))).ending)
@@ -62,9 +61,9 @@ module _ (line : Line) (n : ℕ) (ok : Accepted line) (b : NidecAt n line) (goes
   exited true = inl refl
   exited false = inr refl
 
-  exit_number : Exited (number_of line (Step (exit_of n)))
+  exit_number : Exited (number_of line (Ok (exit_of n)))
   unfolding try
-  exit_number = rw (number_is line (Step (exit_of n)), exit_is) (exited room)
+  exit_number = rw (number_is line (Ok (exit_of n)), exit_is) (exited room)
 
 -- the station still has the mark that it had
 still_leaving : (t steps : List ℕ) (s : Node) → Member s (nodes t) → leaving s ≡ true → fault_of t ≡ 0 → (u : Node) → Member u (run_of t steps).line → number u ≡ number s → leaving u ≡ true

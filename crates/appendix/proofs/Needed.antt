@@ -1,5 +1,6 @@
 -- Each premise is needed: the worked runs that lack one are the witnesses.
 use Prim.Native.Nat.{ℕ}
+use Rattle.std.specs.Prelude.{Ok, Err}
 use mathlib.Core.Path.{◌≡◌, refl, sym, ap, ◌∙◌}
 use mathlib.Core.Logic.{◌≢◌}
 use mathlib.Core.Bool.{true, false}
@@ -13,7 +14,6 @@ use Rattle.lists.specs.Numbers.{are_distinct}
 use Rattle.lists.specs.Places.{range}
 use Rattle.line.specs.declared.Step as declared
 use Rattle.line.specs.declared.Reason.TheVariants.{HeldBy}
-use Rattle.line.specs.declared.Leave.TheVariants.{May, MayNot}
 use Rattle.line.specs.Node.{Line, in_written_order}
 use Rattle.line.specs.InLine.{NeighboursInLine, Quiet, AllStay}
 use Rattle.line.specs.Step.{find}
@@ -21,9 +21,7 @@ use Rattle.line.specs.Accepted.{accepted}
 use Rattle.table.specs.Blocks.{nodes, bytes_of}
 use Rattle.steps.specs.Steps.{steps_of, list_bytes}
 use Rattle.engine.specs.Ran.{list_holds, fault_before, outcome}
-use Rattle.questions.specs.declared.Told.TheVariants.{Yes}
 use Rattle.questions.specs.Told.{yes_no, is_in_line}
-use Rattle.leave.specs.declared.LeaveTold.TheVariants.{Refused, Told}
 use Rattle.leave.specs.Leave.{may_leave}
 use Rattle.lasting.specs.Examples.{is_lined}
 use Rattle.appendix.specs.Claims.{answer_of, table_after, HoldsNoExit}
@@ -50,7 +48,7 @@ module _ (x : LineRun) (s : ShowsLineRun x) (zero : x.answer ≡ 0) (P : Line �
   falls : is_lined x.after ≡ false → ¬ LineLastsFrom P
   falls e f =
       let t = bytes_of x.before.line in
-      let z : yes_no false ≡ Yes = sym (ap yes_no e) ∙ sym s.told_after ∙ sym (ap is_in_line (wrote s.runs)) ∙ f t (list_bytes x.steps) t s.runs.accepted from (ran s.runs ∙ zero) in
+      let z : yes_no false ≡ (Ok true) = sym (ap yes_no e) ∙ sym s.told_after ∙ sym (ap is_in_line (wrote s.runs)) ∙ f t (list_bytes x.steps) t s.runs.accepted from (ran s.runs ∙ zero) in
       let w : ◌≡◌ {A = ℕ} 0 1 = cc in
       omega arith
 
@@ -82,10 +80,10 @@ line_premises_needed =
     }
 
 -- For the second fact: station 5 is held by 3 afterwards, so it may not leave.
-held_after : (x : LeaveRun) (s : ShowsLeaveRun x) → x.told_after ≡ Told (MayNot (HeldBy 3))
-    → may_leave (table_after (bytes_of x.before) (list_bytes x.steps) (bytes_of x.before)) 5 ≢ Told May
+held_after : (x : LeaveRun) (s : ShowsLeaveRun x) → x.told_after ≡ Ok (Err (HeldBy 3))
+    → may_leave (table_after (bytes_of x.before) (list_bytes x.steps) (bytes_of x.before)) 5 ≢ Ok (Ok tt)
 held_after x s e h =
-    let z : Told (MayNot (HeldBy 3)) ≡ Told May = sym e ∙ sym s.told_after ∙ sym (ap (λ (t : List ℕ). may_leave t 5) (wrote s.runs)) ∙ h in
+    let z : Ok (Err (HeldBy 3)) ≡ Ok (Ok tt) = sym e ∙ sym s.told_after ∙ sym (ap (λ (t : List ℕ). may_leave t 5) (wrote s.runs)) ∙ h in
     let w : ◌≡◌ {A = ℕ} 0 1 = cc in
     omega arith
 
@@ -101,11 +99,11 @@ leave_premises_needed =
     record {
       may = λ f.
           held_after held_before held refl
-          (f v (list_bytes held_before.steps) v 5 (MayNot (HeldBy 3)) held.told_before (ran held.runs) held.elsewhere);
+          (f v (list_bytes held_before.steps) v 5 (Err (HeldBy 3)) held.told_before (ran held.runs) held.elsewhere);
       elsewhere = λ f. held_after own_timeout own refl (f u (list_bytes own_timeout.steps) u 5 own.told_before (ran own.runs));
       -- a list of one byte is refused with 8
       answered = λ f.
-          let z : may_leave [] 5 ≡ Told May = rw may.runs.accepted at (f t (0 ∷ []) [] 5 may.told_before (λ x m. absurd (Memᴰ.not-nil m))) in
-          let w : Refused 11 ≡ Told May = sym (told_leave [] (record { accepts = refl; ordered = refl }) 5 (Refused 11) refl) ∙ z in
+          let z : may_leave [] 5 ≡ Ok (Ok tt) = rw may.runs.accepted at (f t (0 ∷ []) [] 5 may.told_before (λ x m. absurd (Memᴰ.not-nil m))) in
+          let w : Err 11 ≡ Ok (Ok tt) = sym (told_leave [] (record { accepts = refl; ordered = refl }) 5 (Err 11) refl) ∙ z in
           absurd (let y : ◌≡◌ {A = ℕ} 0 1 = cc in omega arith);
     }

@@ -1,12 +1,9 @@
 -- Worked runs for the two lasting facts (document 02, T-07), over the bytes of tables and step lists: for each fact one with all its premises, of
 -- several steps, and for each premise one that lacks it and in which the fact does not hold. The proof computes them (proofs/Worked.antt).
-use Rattle.std.specs.Prelude.{ℕ, ◌≤◌, ◌≡◌, Bool, true, false, List, [], ◌∷◌, map, length}
+use Rattle.std.specs.Prelude.{ℕ, ◌≤◌, ◌≡◌, Bool, true, false, List, [], ◌∷◌, map, length, Some, None, Ok, Err}
 use mathlib.Core.List.{Memᴰ as Member}
-use Rattle.line.specs.declared.Neighbour.TheVariants.{None, Station}
 use Rattle.line.specs.declared.Side.TheVariants.{Left, Right}
 use Rattle.line.specs.declared.Reason.TheVariants.{HeldBy}
-use Rattle.line.specs.declared.Leave.TheVariants.{May, MayNot}
-use Rattle.line.specs.declared.Reading.TheVariants.{Step}
 use Rattle.line.specs.declared.Step as declared
 use Rattle.line.specs.Message.{introduction, removal}
 use Rattle.line.specs.Node.{Line}
@@ -16,16 +13,14 @@ use Rattle.table.specs.Blocks.{bytes_of}
 use Rattle.table.specs.Fault.{fault_of}
 use Rattle.steps.specs.Steps.{steps_of, list_bytes}
 use Rattle.questions.specs.Told.{yes_no, is_in_line}
-use Rattle.leave.specs.declared.LeaveTold.{LeaveTold}
-use Rattle.leave.specs.declared.LeaveTold.TheVariants.{Refused, Told}
-use Rattle.leave.specs.Leave.{may_leave}
+use Rattle.leave.specs.Leave.{may_leave, LeaveTold}
 use Rattle.lasting.specs.Examples.{Says, InLineExample, is_lined, ShowsInLine, introductions_wait}
 use Rattle.appendix.specs.Claims.{answer_of, table_after, HoldsNoExit, NoStepAt}
 
 -- A run: the stations of the table as they are stored, the steps of the list, the number answered, and the stations of the table written.
 pub record Runs (before : Line) (steps : List declared.Step) (answer : ℕ) (after : Line) : Type 0 where
   pub accepted : fault_of (bytes_of before) ≡ 0
-  pub reads : steps_of (list_bytes steps) ≡ map Step steps
+  pub reads : steps_of (list_bytes steps) ≡ map Ok steps
   pub answers : (room : List ℕ) → length (bytes_of before) ≤ length room → answer_of (bytes_of before) (list_bytes steps) room ≡ answer
   pub writes : (room : List ℕ) → length (bytes_of before) ≤ length room → table_after (bytes_of before) (list_bytes steps) room ≡ bytes_of after
 
@@ -55,9 +50,9 @@ lasting_line = record {
   answer = 0;
   after = record {
     line =
-        staying 3 None (Station 5) (introduction 5 ∷ introduction 5 ∷ []) ∷
-        staying 5 (Station 3) (Station 9) (introduction 3 ∷ introduction 3 ∷ []) ∷
-        staying 9 (Station 5) None (introduction 3 ∷ introduction 5 ∷ []) ∷ [];
+        staying 3 None (Some 5) (introduction 5 ∷ introduction 5 ∷ []) ∷
+        staying 5 (Some 3) (Some 9) (introduction 3 ∷ introduction 3 ∷ []) ∷
+        staying 9 (Some 5) None (introduction 3 ∷ introduction 5 ∷ []) ∷ [];
     neighbours = true;
     quiet = true;
     staying = true;
@@ -68,7 +63,7 @@ lasting_line = record {
 abbrev pub removal_waits : LineRun
 removal_waits = record {
   before = record {
-    line = staying 3 None (Station 5) [] ∷ staying 5 (Station 3) (Station 9) (removal Left ∷ []) ∷ staying 9 (Station 5) None [] ∷ [];
+    line = staying 3 None (Some 5) [] ∷ staying 5 (Some 3) (Some 9) (removal Left ∷ []) ∷ staying 9 (Some 5) None [] ∷ [];
     neighbours = true;
     quiet = false;
     staying = true;
@@ -77,7 +72,7 @@ removal_waits = record {
   no_exit = true;
   answer = 0;
   after = record {
-    line = staying 3 None (Station 5) [] ∷ staying 5 None (Station 9) [] ∷ staying 9 (Station 5) None [] ∷ [];
+    line = staying 3 None (Some 5) [] ∷ staying 5 None (Some 9) [] ∷ staying 9 (Some 5) None [] ∷ [];
     neighbours = false;
     quiet = true;
     staying = true;
@@ -88,7 +83,7 @@ removal_waits = record {
 abbrev pub station_leaves : LineRun
 station_leaves = record {
   before = record {
-    line = staying 3 None (Station 5) [] ∷ leaving 5 (Station 3) (Station 9) [] ∷ staying 9 (Station 5) None [] ∷ [];
+    line = staying 3 None (Some 5) [] ∷ leaving 5 (Some 3) (Some 9) [] ∷ staying 9 (Some 5) None [] ∷ [];
     neighbours = true;
     quiet = true;
     staying = false;
@@ -118,12 +113,12 @@ neighbours_apart = record {
 -- in line, and the run stops with 13: its list holds an exit
 abbrev pub exit_refused : LineRun
 exit_refused = record {
-  before = record { line = staying 3 None (Station 5) [] ∷ staying 5 (Station 3) None [] ∷ []; neighbours = true; quiet = true; staying = true };
+  before = record { line = staying 3 None (Some 5) [] ∷ staying 5 (Some 3) None [] ∷ []; neighbours = true; quiet = true; staying = true };
   steps = timeout_at 3 ∷ exit_of 5 ∷ [];
   no_exit = false;
   answer = 13;
   after = record {
-    line = staying 3 None (Station 5) [] ∷ staying 5 (Station 3) None (introduction 3 ∷ []) ∷ [];
+    line = staying 3 None (Some 5) [] ∷ staying 5 (Some 3) None (introduction 3 ∷ []) ∷ [];
     neighbours = true;
     quiet = true;
     staying = true;
@@ -157,65 +152,65 @@ pub record ShowsLeaveRun (x : LeaveRun) : Type 0 where
 abbrev pub lasting_leave : Bool → LeaveRun
 lasting_leave mark = record {
   before =
-      staying 3 None (Station 9) [] ∷ node 5 (Station 3) (Station 9) mark [] ∷ staying 9 (Station 3) None (introduction 3 ∷ []) ∷
-      leaving 12 (Station 9) None [] ∷ [];
+      staying 3 None (Some 9) [] ∷ node 5 (Some 3) (Some 9) mark [] ∷ staying 9 (Some 3) None (introduction 3 ∷ []) ∷
+      leaving 12 (Some 9) None [] ∷ [];
   steps = timeout_at 3 ∷ deliver_to 9 (introduction 3) ∷ timeout_at 9 ∷ exit_of 12 ∷ deliver_to 3 (introduction 9) ∷ [];
   elsewhere = true;
   answer = 0;
-  after = staying 3 None (Station 9) [] ∷ node 5 (Station 3) (Station 9) mark [] ∷ staying 9 (Station 3) None (introduction 3 ∷ []) ∷ [];
-  told_before = Told May;
-  told_after = Told May;
+  after = staying 3 None (Some 9) [] ∷ node 5 (Some 3) (Some 9) mark [] ∷ staying 9 (Some 3) None (introduction 3 ∷ []) ∷ [];
+  told_before = Ok (Ok tt);
+  told_after = Ok (Ok tt);
 }
 
 -- a step at the station itself: staying, its timeout names it to its neighbours; leaving, its exit takes its block away
 abbrev pub own_timeout : LeaveRun
 own_timeout = record {
-  before = staying 3 None (Station 9) [] ∷ staying 5 (Station 3) (Station 9) [] ∷ staying 9 (Station 3) None [] ∷ [];
+  before = staying 3 None (Some 9) [] ∷ staying 5 (Some 3) (Some 9) [] ∷ staying 9 (Some 3) None [] ∷ [];
   steps = timeout_at 9 ∷ timeout_at 5 ∷ [];
   elsewhere = false;
   answer = 0;
   after =
-      staying 3 None (Station 9) (introduction 5 ∷ introduction 9 ∷ []) ∷ staying 5 (Station 3) (Station 9) [] ∷
-      staying 9 (Station 3) None (introduction 5 ∷ []) ∷ [];
-  told_before = Told May;
-  told_after = Told (MayNot (HeldBy 3));
+      staying 3 None (Some 9) (introduction 5 ∷ introduction 9 ∷ []) ∷ staying 5 (Some 3) (Some 9) [] ∷
+      staying 9 (Some 3) None (introduction 5 ∷ []) ∷ [];
+  told_before = Ok (Ok tt);
+  told_after = Ok (Err (HeldBy 3));
 }
 
 abbrev pub own_exit : LeaveRun
 own_exit = record {
-  before = staying 3 None (Station 9) [] ∷ leaving 5 (Station 3) (Station 9) [] ∷ staying 9 (Station 3) None [] ∷ [];
+  before = staying 3 None (Some 9) [] ∷ leaving 5 (Some 3) (Some 9) [] ∷ staying 9 (Some 3) None [] ∷ [];
   steps = timeout_at 9 ∷ exit_of 5 ∷ [];
   elsewhere = false;
   answer = 0;
-  after = staying 3 None (Station 9) (introduction 9 ∷ introduction 9 ∷ []) ∷ staying 9 (Station 3) None (introduction 3 ∷ []) ∷ [];
-  told_before = Told May;
-  told_after = Refused 11;
+  after = staying 3 None (Some 9) (introduction 9 ∷ introduction 9 ∷ []) ∷ staying 9 (Some 3) None (introduction 3 ∷ []) ∷ [];
+  told_before = Ok (Ok tt);
+  told_after = Err 11;
 }
 
 -- NIDEC does not hold at first: 3 has the station as its right, and still has
 abbrev pub held_before : LeaveRun
 held_before = record {
-  before = staying 3 None (Station 5) [] ∷ leaving 5 (Station 3) (Station 9) [] ∷ staying 9 (Station 3) None (introduction 3 ∷ []) ∷ [];
+  before = staying 3 None (Some 5) [] ∷ leaving 5 (Some 3) (Some 9) [] ∷ staying 9 (Some 3) None (introduction 3 ∷ []) ∷ [];
   steps = timeout_at 9 ∷ deliver_to 9 (introduction 3) ∷ timeout_at 9 ∷ [];
   elsewhere = true;
   answer = 0;
   after =
-      staying 3 None (Station 5) (introduction 9 ∷ introduction 9 ∷ []) ∷ leaving 5 (Station 3) (Station 9) [] ∷ staying 9 (Station 3) None [] ∷ [];
-  told_before = Told (MayNot (HeldBy 3));
-  told_after = Told (MayNot (HeldBy 3));
+      staying 3 None (Some 5) (introduction 9 ∷ introduction 9 ∷ []) ∷ leaving 5 (Some 3) (Some 9) [] ∷ staying 9 (Some 3) None [] ∷ [];
+  told_before = Ok (Err (HeldBy 3));
+  told_after = Ok (Err (HeldBy 3));
 }
 
 -- the exit that comes later finds the bag of 9 full: 15, and the station may still leave
 abbrev pub later_full : LeaveRun
 later_full = record {
-  before = staying 3 None (Station 9) [] ∷ leaving 5 (Station 3) (Station 9) [] ∷ staying 9 (Station 3) None (many 32 (introduction 3)) ∷ [];
+  before = staying 3 None (Some 9) [] ∷ leaving 5 (Some 3) (Some 9) [] ∷ staying 9 (Some 3) None (many 32 (introduction 3)) ∷ [];
   steps = timeout_at 9 ∷ exit_of 5 ∷ [];
   elsewhere = false;
   answer = 15;
   after =
-      staying 3 None (Station 9) (introduction 9 ∷ []) ∷ leaving 5 (Station 3) (Station 9) [] ∷ staying 9 (Station 3) None (many 32 (introduction 3)) ∷ [];
-  told_before = Told May;
-  told_after = Told May;
+      staying 3 None (Some 9) (introduction 9 ∷ []) ∷ leaving 5 (Some 3) (Some 9) [] ∷ staying 9 (Some 3) None (many 32 (introduction 3)) ∷ [];
+  told_before = Ok (Ok tt);
+  told_after = Ok (Ok tt);
 }
 
 unfoldable pub leave_runs : List LeaveRun

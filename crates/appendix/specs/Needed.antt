@@ -1,20 +1,17 @@
 -- Each premise of the two lasting facts is needed: without it the fact does not hold (document 02, T-07; the witnesses stand in Examples.antt).
-use Rattle.std.specs.Prelude.{ℕ, ◌≡◌, List}
-use Rattle.line.specs.declared.Leave.{Leave}
-use Rattle.line.specs.declared.Leave.TheVariants.{May}
+use Rattle.std.specs.Prelude.{ℕ, ◌≡◌, List, true, Ok}
+use Rattle.line.specs.Types.{Leave}
 use Rattle.line.specs.Node.{Line}
 use Rattle.line.specs.InLine.{NeighboursInLine, Quiet, AllStay}
 use Rattle.table.specs.Blocks.{nodes}
 use Rattle.table.specs.Fault.{fault_of}
-use Rattle.questions.specs.declared.Told.TheVariants.{Yes}
 use Rattle.questions.specs.Told.{is_in_line}
-use Rattle.leave.specs.declared.LeaveTold.TheVariants.{Told}
 use Rattle.leave.specs.Leave.{may_leave}
 use Rattle.appendix.specs.Claims.{answer_of, table_after, HoldsNoExit, NoStepAt}
 
 -- the first fact's two parts with P in place of In line, of an accepted table
 abbrev pub LineLastsFrom : (Line → Type 0) → Type 0
-LineLastsFrom P = (t steps room : List ℕ) → fault_of t ≡ 0 → P (nodes t) → answer_of t steps room ≡ 0 → is_in_line (table_after t steps room) ≡ Yes
+LineLastsFrom P = (t steps room : List ℕ) → fault_of t ≡ 0 → P (nodes t) → answer_of t steps room ≡ 0 → is_in_line (table_after t steps room) ≡ Ok true
 
 abbrev pub NoExitFrom : (Line → Type 0) → Type 0
 NoExitFrom P = (t steps room : List ℕ) → fault_of t ≡ 0 → P (nodes t) → answer_of t steps room ≡ 0 → HoldsNoExit steps
@@ -31,14 +28,14 @@ pub record LinePremisesNeeded : Type 0 where
   -- that the neighbours are as document 01 says
   pub neighbours : ¬ LineLastsFrom (λ line. Quiet line × AllStay line)
   -- that the run is answered 0: the list of one that stopped may hold an exit
-  pub answered : ¬ ((t steps room : List ℕ) → is_in_line t ≡ Yes → HoldsNoExit steps)
+  pub answered : ¬ ((t steps room : List ℕ) → is_in_line t ≡ Ok true → HoldsNoExit steps)
 
 pub record LeavePremisesNeeded : Type 0 where
   -- that NIDEC holds for the station, not only that it has a block of which the question tells something
   pub may :
-      ¬ ((t steps room : List ℕ) (n : ℕ) (l : Leave) → may_leave t n ≡ Told l → answer_of t steps room ≡ 0 → NoStepAt n steps
-      → may_leave (table_after t steps room) n ≡ Told May)
+      ¬ ((t steps room : List ℕ) (n : ℕ) (l : Leave) → may_leave t n ≡ Ok l → answer_of t steps room ≡ 0 → NoStepAt n steps
+      → may_leave (table_after t steps room) n ≡ Ok (Ok tt))
   -- that no step is at the station
-  pub elsewhere : ¬ ((t steps room : List ℕ) (n : ℕ) → may_leave t n ≡ Told May → answer_of t steps room ≡ 0 → may_leave (table_after t steps room) n ≡ Told May)
+  pub elsewhere : ¬ ((t steps room : List ℕ) (n : ℕ) → may_leave t n ≡ Ok (Ok tt) → answer_of t steps room ≡ 0 → may_leave (table_after t steps room) n ≡ Ok (Ok tt))
   -- that the run is answered 0: one that is refused before its first step writes no table
-  pub answered : ¬ ((t steps room : List ℕ) (n : ℕ) → may_leave t n ≡ Told May → NoStepAt n steps → may_leave (table_after t steps room) n ≡ Told May)
+  pub answered : ¬ ((t steps room : List ℕ) (n : ℕ) → may_leave t n ≡ Ok (Ok tt) → NoStepAt n steps → may_leave (table_after t steps room) n ≡ Ok (Ok tt))

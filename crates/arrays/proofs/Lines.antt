@@ -12,7 +12,8 @@ use Rattle.line.specs.declared.Message.{Message}
 use Rattle.line.specs.declared.Station as declared
 use Rattle.line.specs.Node.{Node, nobody}
 use Rattle.index.specs.Index.{slot_in}
-use Rattle.arrays.specs.Arrays.{Arrays, node_in, node_at, line_in}
+use Rattle.arrays.specs.declared.Arrays.{Arrays}
+use Rattle.arrays.specs.Arrays.{node_in, node_at, line_in}
 
 -- the slot of the entry at i
 abbrev pub slot_of : Arrays → ℕ → ℕ

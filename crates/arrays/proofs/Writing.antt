@@ -18,7 +18,8 @@ use Rattle.index.specs.Index.{slot_in}
 use Rattle.writing.specs.Encoding.{encode}
 use Rattle.writing.proofs.ReadBack.{written_length}
 use Rattle.table.specs.Blocks.{bytes_of}
-use Rattle.arrays.specs.Arrays.{Arrays, node_at, line_in}
+use Rattle.arrays.specs.declared.Arrays.{Arrays}
+use Rattle.arrays.specs.Arrays.{node_at, line_in}
 use Rattle.arrays.specs.Claims.{WrittenSize}
 use Rattle.arrays.proofs.Lines.{slot_of}
 
@@ -73,10 +74,6 @@ module _ {before : List ℕ} {a : Arrays} {k : ℕ} {room : List ℕ} (so_far : 
       rw (m, z, more, so_far.is) (framed (bytes_of line) block before (512 * k) 512 so_far.long) in
       let long : length (bytes_of (firsts a (k + 1))) ≡ 512 * (k + 1) = rw (more, length-append) (omega arith) in
       record { within = omega arith; size = ap length whole ∙ simp (length-append, length-drop) (omega arith); long = long; is = whole }
-
-  -- all of them
-  pub written_all : a.n ≤ k → room ≡ bytes_of (line_in a) ++ drop (512 * a.n) before
-  written_all h = let w = so_far.within in let e : k ≡ a.n = omega arith in rw e at so_far.is
 
 pub written_size : WrittenSize
 unfolding bytes_of

@@ -7,14 +7,7 @@ use Rattle.line.specs.declared.Station as declared
 use Rattle.line.specs.Message.{precedes}
 use Rattle.line.specs.Node.{Node, Line, nobody}
 use Rattle.index.specs.Index.{slot_in}
-
--- the arrays of a run, of which the first n entries of the index count
-pub record Arrays : Type 0 where
-  pub n : ℕ
-  pub index : List ℕ
-  pub stations : List declared.Station
-  pub bags : List (List Message)
-  pub counts : List ℕ
+use Rattle.arrays.specs.declared.Arrays.{Arrays}
 
 -- a station beside its bag: the first c messages of a row, in written order
 abbrev pub node_in : declared.Station → List Message → ℕ → Node

@@ -8,7 +8,7 @@ use Rattle.octets.specs.Bytes.{word}
 use Rattle.block.specs.Layout.{station_of, blank, row_of}
 use Rattle.table.specs.Blocks.{block_at}
 use Rattle.table.specs.Index.{index_array}
-use Rattle.arrays.specs.Arrays.{Arrays}
+use Rattle.arrays.specs.declared.Arrays.{Arrays}
 
 -- what f makes of each block; after them e, up to 64 places
 unfoldable pub filled : {A : Type 0} → (List ℕ → A) → A → List ℕ → List A

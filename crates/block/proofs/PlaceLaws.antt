@@ -1,7 +1,7 @@
 -- The message places, which the definitions count from the end and the loops meet one by one.
 use mathlib.Core.Path.{◌≡◌, refl, sym, ap, ◌∙◌}
-use mathlib.Core.Bool.{Bool, true, false, and-false}
-use mathlib.Core.List.{List, [], ◌∷◌, ◌++◌, append_assoc}
+use mathlib.Core.Bool.{Bool, true, false, ◌&&◌, and-true, and-false}
+use mathlib.Core.List.{List, map, [], ◌∷◌, ◌++◌, append_assoc}
 use mathlib.Core.Logic.{⊎_elim}
 use Prim.Native.Nat.{ℕ, zero, suc, ◌+◌, ◌-◌, ◌*◌, ◌≤◌, ◌<◌}
 use native.Mathlib.Numerals.{add-one}
@@ -9,10 +9,12 @@ use native.Mathlib.Nat.{le_of_suc-le-suc, not-suc-le-zero, eq-or-lt_of_le}
 use native.Mathlib.Omega.{arith}
 use lib.ListN.{length, take, set, replicate, length-append, length-set}
 use lib.Seq.{set_at, take_at}
+use Rattle.std.specs.List.{list_all, range_with_len}
+use Rattle.std.proofs.lemmas.List.Folds.{list_all-append, list_all-map}
+use Rattle.std.proofs.lemmas.List.FromFn.{map-range_with_len_more}
 use Rattle.line.specs.declared.Message.{Message}
 use Rattle.octets.specs.Bytes.{word, quad}
-use Rattle.fields.specs.declared.Place.{Place}
-use Rattle.fields.specs.Fields.{place_of, is_good, message_of}
+use Rattle.fields.specs.Fields.{place_of, is_good, message_of, Place}
 use Rattle.block.specs.Layout.{place_at, places_hold, messages, blank, row_of}
 
 -- the three fields of a place
@@ -39,28 +41,21 @@ good_below b i n h k = go (is_good (place_at b i)) refl
     go true e = refl
     go false e = sym (bad_below b i n k e) ∙ h
 
--- the first i of n places are good
-pub record GoodTo (b : List ℕ) (n i : ℕ) : Type 0 where
-  pub within : i ≤ n
-  pub are : places_hold b i ≡ true
+-- a test of the first n numbers, one more
+pub tests_grow : (f : ℕ → Bool) (n : ℕ) → list_all f (range_with_len 0 (suc n)) ≡ (list_all f (range_with_len 0 n) && f n)
+tests_grow f n =
+    let l = range_with_len 0 n in
+    let grown = rw (add-one n) at (map-range_with_len_more f 0 n n (omega arith)) in
+    sym (list_all-map (λ t. t) f (range_with_len 0 (suc n)))
+    ∙ ap (list_all (λ t. t)) grown
+    ∙ list_all-append (λ t. t) (map f l) (f n ∷ [])
+    ∙ rw (list_all-map (λ t. t) f l, and-true)
 
-pub good_none : {b : List ℕ} {n : ℕ} → GoodTo b n 0
+-- the first n places, tested one by one
+pub places_tested : (b : List ℕ) (n : ℕ) → list_all (λ i. is_good (place_at b i)) (range_with_len 0 n) ≡ places_hold b n
 unfolding places_hold
-good_none = record { within = omega arith; are = refl }
-
-module _ {b : List ℕ} {n i : ℕ} (so_far : GoodTo b n i) where
-  -- one more, x
-  pub good_next : i < n → {x : Place} → x ≡ place_at b i → {r : Bool} → r ≡ is_good x → r ≡ true → GoodTo b n (i + 1)
-  unfolding places_hold
-  good_next h e q t = record { within = omega arith; are = rw (add-one i, so_far.are, ← e, ← q) t }
-
-  -- a bad one decides
-  pub good_not : i < n → {x : Place} → x ≡ place_at b i → {r : Bool} → r ≡ is_good x → r ≡ false → false ≡ places_hold b n
-  good_not h e q t = sym (bad_below b i n h (ap is_good (sym e) ∙ sym q ∙ t))
-
-  -- all of them
-  pub good_all : n ≤ i → true ≡ places_hold b n
-  good_all h = let w = so_far.within in let e : n ≡ i = omega arith in rw e (sym so_far.are)
+places_tested b zero = refl
+places_tested b (suc n) = tests_grow (λ i. is_good (place_at b i)) n ∙ ap (λ t. t && is_good (place_at b n)) (places_tested b n)
 
 pub length_messages : (b : List ℕ) (n : ℕ) → length (messages b n) ≡ n
 unfolding messages

@@ -1,5 +1,6 @@
 -- The tests of a block say what document 01 says of its bytes.
 use Prim.Native.Nat.{ℕ, zero, suc, ◌+◌, ◌-◌, ◌*◌, ◌≤◌, ◌<◌}
+use Rattle.std.specs.Prelude.{Some, None}
 use mathlib.Core.Path.{◌≡◌, refl, sym, ap, ◌∙◌}
 use mathlib.Core.Logic.{◌↔◌, ◌⊎◌, ◌≢◌, inl, inr, ⊎_elim}
 use mathlib.Core.Bool.{Bool, true, false, cond, ◌&&◌, and-false}
@@ -14,7 +15,6 @@ use lib.ListN.{length, drop, get_or, length-take}
 use lib.Seq.{get_or-take, get_or-drop}
 use borrow.Author.Tests.{eqb-true, eqb-false, eq-eqb, leb-true, leb-false, le-leb}
 use Rattle.lists.proofs.Lists.{clash, both_and, fails}
-use Rattle.line.specs.declared.Neighbour.TheVariants.{None, Station}
 use Rattle.line.specs.declared.Content.{Content}
 use Rattle.line.specs.declared.Content.TheVariants.{Introduction, RemoveLeft, RemoveRight}
 use Rattle.line.specs.declared.Message.{Message}
@@ -133,7 +133,7 @@ misplaced : (d : Side) (p n : ℕ) → (lies_beyond d p (neighbour_of n) ≡ fal
 unfolding lies_beyond neighbour_of
 misplaced d p n = go (eqb n 0) refl
   where
-    go : (t : Bool) → eqb n 0 ≡ t → (lies_beyond d p (cond t None (Station n)) ≡ false) ↔ Misplaced d p n
+    go : (t : Bool) → eqb n 0 ≡ t → (lies_beyond d p (cond t None (Some n)) ≡ false) ↔ Misplaced d p n
     go true e = (λ k. clash refl k, λ w. absurd (w.0 (eqb-true n 0 e)))
     go false e = (λ k. (eqb-false n 0 e, λ y. clash (true_beyond d p n y) k), λ w. fails (beyond d p n) (λ y. w.1 (beyond_true d p n y)))
 
@@ -195,13 +195,13 @@ module _ (b : List ℕ) where
         of_kind_lem : (m : Message) → kind m.content ≡ 1 → carried m.content ≡ q → introduction q ≡ m
         of_kind_lem m e f = ap (λ (c : Content). record { content = c }) (of_content m.content e f)
 
-neighbour_is : (n q : ℕ) → (neighbour_of n ≡ Station q) ↔ ((q ≢ 0) × (n ≡ q))
+neighbour_is : (n q : ℕ) → (neighbour_of n ≡ Some q) ↔ ((q ≢ 0) × (n ≡ q))
 unfolding neighbour_of
 neighbour_is n q = go (eqb n 0) refl
   where
-    go : (t : Bool) → eqb n 0 ≡ t → (cond t None (Station n) ≡ Station q) ↔ ((q ≢ 0) × (n ≡ q))
+    go : (t : Bool) → eqb n 0 ≡ t → (cond t None (Some n) ≡ Some q) ↔ ((q ≢ 0) × (n ≡ q))
     go true e = (λ h. none_station h, λ w. absurd (w.0 (sym w.1 ∙ eqb-true n 0 e)))
-    go false e = (λ h. let i : n ≡ q = station_inj h in (λ (z : q ≡ 0). eqb-false n 0 e (i ∙ z), i), λ w. ap Station w.1)
+    go false e = (λ h. let i : n ≡ q = station_inj h in (λ (z : q ≡ 0). eqb-false n 0 e (i ∙ z), i), λ w. ap Some w.1)
 
 pub names_linked : NamesLinked
 unfolding node_of station_of

@@ -1,12 +1,12 @@
 -- One law for each way through the code that reads a block: what was tested and what was called give what the layout says.
 use mathlib.Core.Path.{◌≡◌, ◌∙◌}
+use Rattle.std.specs.Prelude.{Some, None}
+use Rattle.line.specs.Types.{Neighbour}
 use mathlib.Core.Bool.{Bool, true, false, not, ◌&&◌}
 use mathlib.Core.List.{List}
 use Prim.Native.Nat.{ℕ, ◌%◌}
 use borrow.Author.Tests.{not-true, not-false}
 use lib.Dec.{eqb}
-use Rattle.line.specs.declared.Neighbour.{Neighbour}
-use Rattle.line.specs.declared.Neighbour.TheVariants.{None, Station}
 use Rattle.line.specs.declared.Side.{Side}
 use Rattle.line.specs.declared.Side.TheVariants.{Left, Right}
 use Rattle.line.specs.declared.Marks.{Marks}
@@ -48,7 +48,7 @@ module _ (d : Side) (p : ℕ) (n : Neighbour) where
   unfolding lies_beyond
   beyond_none e = rw e
 
-  pub beyond_station : (q : ℕ) → n ≡ Station q → {r : Bool} → r ≡ beyond d p q → r ≡ lies_beyond d p n
+  pub beyond_station : (q : ℕ) → n ≡ Some q → {r : Bool} → r ≡ beyond d p q → r ≡ lies_beyond d p n
   unfolding lies_beyond
   beyond_station q e f = f ∙ rw e
 

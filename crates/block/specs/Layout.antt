@@ -6,8 +6,7 @@ use Rattle.line.specs.declared.Station as declared
 use Rattle.line.specs.Marks.{flags_hold, site_holds, marks_from}
 use Rattle.line.specs.Node.{Node}
 use Rattle.line.specs.Accepted.{in_range, has_sides}
-use Rattle.fields.specs.declared.Place.{Place}
-use Rattle.fields.specs.Fields.{layout_holds, neighbour_holds, count_holds, place_of, is_good, message_of, neighbour_of}
+use Rattle.fields.specs.Fields.{layout_holds, neighbour_holds, count_holds, place_of, is_good, message_of, neighbour_of, Place}
 use Rattle.octets.specs.Bytes.{word, quad, sum_words, part, all_zero}
 
 -- "The 256 words of 16 bits, added with wrap at 65,536, give 65,535."

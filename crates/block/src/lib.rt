@@ -2,17 +2,19 @@
 #![tactic(auto)]
 
 pub mod layout;
+pub mod messages;
 pub mod places;
 pub mod stations;
 
 ghost use Rattle.std.specs.Prelude.{◌≡◌, ◌≤◌, length};
+ghost use Rattle.line.specs.Answer.{number_of};
 ghost use Rattle.octets.specs.Bytes.{word};
 ghost use Rattle.block.specs.Layout.{check_holds, row_of, first_fault, fault_of};
 
 use bag::Bag;
 use fields::message_of;
 use layout::fields_hold;
-use line::{Content, Message};
+use line::{Content, Fault, Message};
 use octets::{check_sum, word_at};
 use places::place_at;
 use stations::has_sides;
@@ -26,25 +28,25 @@ fn check_holds(b: &[u8]) -> bool
     check_sum(b) == 65535
 }
 
-// The smallest of 3, 4 and 5 whose rule does not hold, or 0.
-fn first_fault(check: bool, fields: bool, sides: bool) -> u32
-    ensures { result ≡ first_fault check fields sides }
+// The smallest of 3, 4 and 5 whose rule does not hold.
+fn first_fault(check: bool, fields: bool, sides: bool) -> Option<Fault>
+    ensures { number_of result ≡ first_fault check fields sides }
 {
     if !check {
-        return 3;
+        return Some(Fault::BadCheck);
     }
     if !fields {
-        return 4;
+        return Some(Fault::BadField);
     }
     if !sides {
-        return 5;
+        return Some(Fault::BadSide);
     }
-    0
+    None
 }
 
-pub fn fault_of(b: &[u8]) -> u32
+pub fn fault_of(b: &[u8]) -> Option<Fault>
     requires { length b.now ≡ 512 }
-    ensures { result ≡ fault_of b.now }
+    ensures { number_of result ≡ fault_of b.now }
 {
     let check = check_holds(b);
     let fields = fields_hold(b);
@@ -62,11 +64,8 @@ pub fn bag_of(b: &[u8]) -> Bag
         content: Content::RemoveLeft,
     };
     let mut messages = [blank; 32];
-    let mut i = 0;
-    while i < n {
-        let message = message_of(place_at(b, i));
-        messages[i] = message;
-        i += 1;
+    for i in 0..n {
+        messages[i] = message_of(place_at(b, i));
     }
     Bag { messages, count: n }
 }

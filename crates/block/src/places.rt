@@ -2,10 +2,11 @@
 ghost use Rattle.std.specs.Prelude.{◌≡◌, ◌≤◌, ◌<◌, length};
 ghost use Rattle.block.specs.Layout.{place_at, places_hold};
 
-use fields::{Place, is_good, place_of};
+use fields::{is_good, place_of};
+use line::Message;
 use octets::{quad_at, word_at};
 
-pub fn place_at(b: &[u8], i: usize) -> Place
+pub fn place_at(b: &[u8], i: usize) -> Option<Message>
     requires { (length b.now ≡ 512) × (i < 32) }
     ensures { result ≡ place_at b.now i }
 {
@@ -21,13 +22,5 @@ pub fn places_hold(b: &[u8], n: usize) -> bool
     requires { (length b.now ≡ 512) × (n ≤ 32) }
     ensures { result ≡ places_hold b.now n }
 {
-    let mut i = 0;
-    while i < n {
-        if is_good(place_at(b, i)) {
-            i += 1;
-        } else {
-            return false;
-        }
-    }
-    true
+    (0..n).all(|i| is_good(place_at(b, i)))
 }

@@ -29,8 +29,8 @@ fn lies_beyond(side: Side, p: u32, neighbour: Neighbour) -> bool
     ensures { result ≡ lies_beyond side p neighbour }
 {
     match neighbour {
-        Neighbour::None => true,
-        Neighbour::Station(q) => side.beyond(p, q),
+        None => true,
+        Some(q) => side.beyond(p, q),
     }
 }
 

@@ -1,8 +1,8 @@
-// What the programs over files of cases share: a file is read part by part, a room is filled with one byte, and it is told whether it
-// still holds nothing else.
+// What the programs over files of cases share: a file is read part by part, each part after its length, a room is filled with one byte, and
+// it is told whether it still holds nothing else.
 #![tactic(auto)]
 
-ghost use Rattle.std.specs.Prelude.{◌≡◌, length};
+ghost use Rattle.std.specs.Prelude.{◌≡◌, ◌^◌, ◌<◌, length, All, IfOk, IfSome};
 ghost use Rattle.std.specs.Io.{ReadsAtMost};
 
 use std::io;
@@ -10,26 +10,16 @@ use std::io::Read;
 
 // Every byte becomes 165.
 pub fn fill(room: &mut [u8]) {
-    let mut i = 0;
-    while i < room.len() {
-        room[i] = 165;
-        i += 1;
-    }
+    room.fill(165);
 }
 
 // Whether every byte is 165.
 fn is_kept(rest: &[u8]) -> bool {
-    let mut i = 0;
-    while i < rest.len() {
-        if rest[i] != 165 {
-            return false;
-        }
-        i += 1;
-    }
-    true
+    rest.iter().all(|byte| *byte == 165)
 }
 
-// Reads until the room is full or the file ends, and returns how many bytes were put at the front of the room.
+// Reads until the room is full or the file ends, and returns how many bytes were put at the front of the room. No index is counted here: each
+// turn moves on by what the read gave, so the loop stays a `while`.
 pub fn read_full<R: Read>(file: &mut R, room: &mut [u8]) -> io::Result<usize>
     ensures at_most { ReadsAtMost result room.new }
     ensures size { length room.new ≡ length room.old }
@@ -54,6 +44,21 @@ pub fn read_part<R: Read>(file: &mut R, room: &mut [u8], n: usize) -> io::Result
         return Ok(0);
     }
     read_full(file, &mut room[..n])
+}
+
+// The next N lengths, of four bytes each; none where the file ends before.
+pub fn read_lengths<const N: usize>(file: &mut impl Read) -> io::Result<Option<[usize; N]>>
+    ensures { IfOk result (λ found. IfSome found (λ lengths. All (λ n. n < 2 ^ 32) lengths)) }
+{
+    let mut lengths = [0; N];
+    for length in &mut lengths {
+        let mut bytes = [0u8; 4];
+        if read_full(file, &mut bytes)? != 4 {
+            return Ok(None);
+        }
+        *length = u32::from_le_bytes(bytes) as usize;
+    }
+    Ok(Some(lengths))
 }
 
 // The line with a case's place in the file.

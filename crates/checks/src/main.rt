@@ -2,19 +2,10 @@
 // line is printed for each, its place in the file and the number that the check gives it.
 #![tactic(auto)]
 
-use cases::read_full;
+use cases::{read_full, read_lengths};
 use std::fs::File;
 use std::io;
 use std::io::Read;
-
-// The length of the next table; more than any table has where there is none.
-fn next_length(file: &mut impl Read) -> io::Result<usize> {
-    let mut head = [0u8; 4];
-    if read_full(file, &mut head)? != 4 {
-        return Ok(65536);
-    }
-    Ok(octets::quad_at(&head, 0) as usize)
-}
 
 // Checks the next table, which is read into the room, and answers whether there was one.
 fn check_next(
@@ -23,12 +14,15 @@ fn check_next(
     room: &mut [u8],
     place: u64,
 ) -> io::Result<bool> {
-    let n = next_length(file)?;
+    let Some(lengths) = read_lengths::<1>(file)? else {
+        return Ok(false);
+    };
+    let [n] = lengths;
     if room.len() < n {
         return Ok(false);
     }
     let got = read_full(file, &mut room[..n])?;
-    let number = table::check(&room[..n]);
+    let number = line::checked_number(table::check(&room[..n]));
     println!(rt; "{place} {number}")?;
     Ok(got == n)
 }

@@ -1,10 +1,10 @@
 -- The cases in the order of lemma 3's proof are the step rules.
 use mathlib.Core.Path.{◌≡◌, refl, sym, ap}
+use Rattle.std.specs.Prelude.{Some, None}
+use Rattle.line.specs.Types.{Neighbour}
 use mathlib.Core.Bool.{Bool, true, false, cond}
 use Prim.Native.Nat.{ℕ}
 use lib.Dec.{eqb, ltb}
-use Rattle.line.specs.declared.Neighbour.{Neighbour}
-use Rattle.line.specs.declared.Neighbour.TheVariants.{None, Station}
 use Rattle.line.specs.declared.Station as declared
 use Rattle.line.specs.declared.Side.{Side}
 use Rattle.line.specs.declared.Side.TheVariants.{Left, Right}
@@ -23,9 +23,9 @@ use Rattle.delivery.specs.Claims.{OrderAgrees, StepAgrees}
 side_agrees : (d : Side) (p : declared.Station) (id : ℕ) (n : Neighbour) → on_side d p id (variable d n) ≡ meet d p id n
 unfolding on_side below equal less left_id right_id mail meet beyond
 side_agrees Right p id None = refl
-side_agrees Right p id (Station q) = refl
+side_agrees Right p id (Some q) = refl
 side_agrees Left p id None = refl
-side_agrees Left p id (Station q) = refl
+side_agrees Left p id (Some q) = refl
 
 pub order_agrees : OrderAgrees
 unfolding introduced rules.introduced side_of

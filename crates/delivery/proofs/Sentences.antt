@@ -1,12 +1,12 @@
 -- The sentences of the text, each with its whole condition, say what the cases in their order say.
 use mathlib.Core.Path.{◌≡◌, refl, sym, ap, subst, ◌∙◌}
+use Rattle.std.specs.Prelude.{Some}
 use mathlib.Core.Bool.{Bool, true, false}
 use Prim.Native.Nat.{ℕ}
 use lib.Dec.{eqb, ltb}
 use borrow.Author.Tests.{eqb-true, eqb-false, eq-eqb, ne_eqb, ltb-true, ltb-false, lt-ltb, le-ltb}
 use native.Mathlib.Omega.{arith}
 use Rattle.lists.proofs.Lists.{clash}
-use Rattle.line.specs.declared.Neighbour.TheVariants.{Station}
 use Rattle.line.specs.declared.Station as declared
 use Rattle.line.specs.declared.Side.{Side}
 use Rattle.line.specs.declared.Side.TheVariants.{Left, Right}
@@ -73,7 +73,7 @@ module _ (id : ℕ) where
     introduced_on Left h = rw (ne_eqb id p.number (λ e. omega (arith, ltb-true id p.number h)), le-ltb p.number id (omega (arith, ltb-true id p.number h)))
 
     module _ (d : Side) (q : Id) where
-      on_below : below d id q ≡ true → on_side d p id q ≡ record { station = with_neighbour d (Station id) p; sends = mail (Intro q) (process id) }
+      on_below : below d id q ≡ true → on_side d p id q ≡ record { station = with_neighbour d (Some id) p; sends = mail (Intro q) (process id) }
       unfolding on_side
       on_below h = rw h
 

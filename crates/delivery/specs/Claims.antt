@@ -1,8 +1,7 @@
 -- What is proved of the delivery in the order of lemma 3's proof (the proofs are in proofs/, under the same names in snake case). None of it has
 -- a premise, so that it holds of every accepted table, and of every other.
-use Rattle.std.specs.Prelude.{ℕ, ◌≡◌, ◌↔◌, true}
+use Rattle.std.specs.Prelude.{ℕ, ◌≡◌, ◌↔◌, true, Some}
 use mathlib.Core.List.{Memᴰ as Member}
-use Rattle.line.specs.declared.Neighbour.TheVariants.{Station}
 use Rattle.line.specs.declared.Station as declared
 use Rattle.line.specs.declared.Side.{Side}
 use Rattle.line.specs.declared.Side.TheVariants.{Left, Right}
@@ -39,7 +38,7 @@ pub record Sentences (p : declared.Station) (id : ℕ) (r : Reaction) : Type 0 w
   pub itself : id ≡ p.number → r ≡ unchanged p
   -- "If p < id < right"
   pub below : (d : Side) → Below d (process p.number) (process id) → Below d (process id) (held d p)
-      → r ≡ record { station = with_neighbour d (Station id) p; sends = mail (Intro (held d p)) (process id) }
+      → r ≡ record { station = with_neighbour d (Some id) p; sends = mail (Intro (held d p)) (process id) }
   -- "If id = right"
   pub equal : (d : Side) → Below d (process p.number) (process id) → process id ≡ held d p → r ≡ unchanged p
   -- "If id > right"

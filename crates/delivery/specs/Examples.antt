@@ -1,7 +1,6 @@
 -- Each case of lemma 3's proof, worked.
-use Rattle.std.specs.Prelude.{ℕ, ◌≡◌, false, List, [], ◌∷◌}
-use Rattle.line.specs.declared.Neighbour.{Neighbour}
-use Rattle.line.specs.declared.Neighbour.TheVariants.{None, Station}
+use Rattle.std.specs.Prelude.{ℕ, ◌≡◌, false, List, [], ◌∷◌, Some, None}
+use Rattle.line.specs.Types.{Neighbour}
 use Rattle.line.specs.declared.Station as declared
 use Rattle.line.specs.Message.{introduction}
 use Rattle.line.specs.Marks.{plain}
@@ -30,20 +29,20 @@ delivered l r id m q sends = record { left = l; right = r; id = id; new_left = m
 unfoldable pub examples : List Example
 examples =
     -- "If id = p"
-    delivered (Station 30) (Station 70) 50 (Station 30) (Station 70) [] ∷
+    delivered (Some 30) (Some 70) 50 (Some 30) (Some 70) [] ∷
     -- "If p < id < right": 70, or +∞, where there is nothing to send
-    delivered (Station 30) (Station 70) 60 (Station 30) (Station 60) (send 60 (introduction 70)) ∷
-    delivered (Station 30) None 60 (Station 30) (Station 60) [] ∷
+    delivered (Some 30) (Some 70) 60 (Some 30) (Some 60) (send 60 (introduction 70)) ∷
+    delivered (Some 30) None 60 (Some 30) (Some 60) [] ∷
     -- "If id = right"
-    delivered (Station 30) (Station 70) 70 (Station 30) (Station 70) [] ∷
+    delivered (Some 30) (Some 70) 70 (Some 30) (Some 70) [] ∷
     -- "If id > right"
-    delivered (Station 30) (Station 70) 80 (Station 30) (Station 70) (send 70 (introduction 80)) ∷
+    delivered (Some 30) (Some 70) 80 (Some 30) (Some 70) (send 70 (introduction 80)) ∷
     -- "The case of id < p is similar."
-    delivered (Station 30) (Station 70) 40 (Station 40) (Station 70) (send 40 (introduction 30)) ∷
-    delivered None (Station 70) 40 (Station 40) (Station 70) [] ∷
-    delivered (Station 30) (Station 70) 30 (Station 30) (Station 70) [] ∷
-    delivered (Station 30) (Station 70) 20 (Station 30) (Station 70) (send 30 (introduction 20)) ∷
+    delivered (Some 30) (Some 70) 40 (Some 40) (Some 70) (send 40 (introduction 30)) ∷
+    delivered None (Some 70) 40 (Some 40) (Some 70) [] ∷
+    delivered (Some 30) (Some 70) 30 (Some 30) (Some 70) [] ∷
+    delivered (Some 30) (Some 70) 20 (Some 30) (Some 70) (send 30 (introduction 20)) ∷
     -- without neighbours: itself, and one on each side
     delivered None None 50 None None [] ∷
-    delivered None None 60 None (Station 60) [] ∷
-    delivered None None 40 (Station 40) None [] ∷ []
+    delivered None None 60 None (Some 60) [] ∷
+    delivered None None 40 (Some 40) None [] ∷ []

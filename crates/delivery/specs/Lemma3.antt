@@ -1,8 +1,7 @@
 -- What station p does with an introduction of id: the cases of the proof of lemma 3 of source 000, in the order of its text. Quoted is what
 -- that text says of action introduce, with its letters: p is the station's number, id the number that the message carries, right and left the
 -- neighbours, as Figure 1 has them: "left : process ids less than p, −∞ if undefined", "right : process ids greater than p, +∞ if undefined".
-use Rattle.std.specs.Prelude.{ℕ, Bool, false, cond, eqb, ltb}
-use Rattle.line.specs.declared.Neighbour.TheVariants.{Station}
+use Rattle.std.specs.Prelude.{ℕ, Bool, false, cond, eqb, ltb, Some}
 use Rattle.line.specs.declared.Station as declared
 use Rattle.line.specs.declared.Side.{Side}
 use Rattle.line.specs.declared.Side.TheVariants.{Left, Right}
@@ -30,7 +29,7 @@ equal id +∞ = false
 unfoldable pub on_side : Side → declared.Station → ℕ → Id → Reaction
 on_side d p id q =
     -- "If p < id < right, introduce sets right = id. ... However, this action also sends message intro(q) to id."
-    cond (below d id q) (record { station = with_neighbour d (Station id) p; sends = mail (Intro q) (process id) })
+    cond (below d id q) (record { station = with_neighbour d (Some id) p; sends = mail (Intro q) (process id) })
     -- "If id = right, action introduce removes the message and does no further operations."
     (cond (equal id q) (unchanged p)
     -- "If id > right, action introduce forwards id to right"

@@ -1,5 +1,7 @@
 -- One step over the arrays: what its stores make of the line.
 use Prim.Native.Nat.{ℕ, ◌<◌}
+use Rattle.std.specs.Prelude.{Ok, Option, Some}
+use Rattle.line.specs.Types.{Leave}
 use mathlib.Core.Path.{◌≡◌, refl, sym, ap, ◌∙◌}
 use mathlib.Core.Bool.{Bool, true, false, cond}
 use mathlib.Core.List.Memᴰ.{head as here}
@@ -9,7 +11,6 @@ use lib.Dec.{eqb}
 use lib.ListN.{length, get_or, take, set}
 use Rattle.lists.specs.Places.{remove_at, first_at}
 use Rattle.line.specs.declared.Message.{Message}
-use Rattle.line.specs.declared.Leave.{Leave}
 use Rattle.line.specs.declared.Step.{Step}
 use Rattle.line.specs.Answer.{done}
 use Rattle.line.specs.Node.{Node, Line, number, nobody}
@@ -19,11 +20,10 @@ use Rattle.line.proofs.Places.{place, with_bag}
 use Rattle.bag.specs.declared.Taken.{Taken}
 use Rattle.bag.specs.Held.{ordered}
 use Rattle.index.specs.Index.{numbers_in}
-use Rattle.arrays.specs.Arrays.{Arrays, node_at, line_in}
+use Rattle.arrays.specs.declared.Arrays.{Arrays}
+use Rattle.arrays.specs.Arrays.{node_at, line_in}
 use Rattle.arrays.proofs.Lines.{slot_of, shortened}
 use Rattle.rules.specs.declared.Sending.{Sending}
-use Rattle.rules.specs.declared.Sending.TheVariants.{To}
-use Rattle.rules.specs.declared.Verdict.TheVariants.{Done}
 use Rattle.rules.specs.declared.Decision.{Decision}
 use Rattle.rules.specs.Decided.{rest}
 use Rattle.moves.specs.declared.Plan.{Plan}
@@ -32,7 +32,7 @@ use Rattle.moves.specs.Sends.{Plans, BagAfter}
 use Rattle.moves.proofs.Sending.{sent_fits}
 use Rattle.effects.proofs.Posting.{arrived}
 use Rattle.effects.proofs.Working.{step_stays, step_leaves, first_unmoved, second_unmoved, named, unfound}
-use Rattle.effects.proofs.Stores.{Consistent, BetweenSteps, bag_at, with_bags, Arrived, consistent_bag, consistent_count, stored_line, stored_consistent, arrived_line, arrived_consistent, Dropped, dropped_line, dropped_numbered, dropped_consistent, OwnStored, with_station, station_line, station_consistent}
+use Rattle.effects.proofs.Stores.{Consistent, BetweenSteps, bag_at, Arrived, SameIndex, own_index, arrived_index, consistent_bag, consistent_count, stored_line, stored_consistent, arrived_line, arrived_consistent, Dropped, dropped_line, dropped_numbered, dropped_consistent, OwnStored, with_station, station_line, station_consistent}
 use Rattle.effects.proofs.Asked.{Asking, WalkEnded, asked_leave}
 use Rattle.effects.proofs.Judging.{Judged, tidy, receiver, receiver_bound, first_slot, second_slot, first_count, second_count, decided, verdicts, fits}
 
@@ -58,19 +58,16 @@ module _ {a : Arrays} {x : Step} {i : ℕ} {taken : Taken} {plan : Plan} (k : Pl
   abbrev d : Decision
   d = plan.decision
 
-  abbrev one : Sending
+  abbrev one : Option Sending
   one = d.sendings.first
 
-  abbrev two : Sending
+  abbrev two : Option Sending
   two = d.sendings.second
 
   -- the step is done
-  module _ (goes : plan.verdict ≡ Done) where
+  module _ (goes : plan.verdict ≡ Ok tt) where
     -- the station is stored, and its own bag where a message was taken out of it
-    module _ (bags₁ : List (List Message)) (counts₁ : List ℕ) (own-stored : OwnStored taken.found (slot_of a i) taken.bag a bags₁ counts₁) where
-      abbrev a₁ : Arrays
-      a₁ = with_bags (with_station a (slot_of a i) d.station) bags₁ counts₁
-
+    module _ (a₁ : Arrays) (own-stored : OwnStored taken.found (slot_of a i) taken.bag (with_station a (slot_of a i) d.station) a₁) where
       own_bag : ordered taken.bag ≡ rest x.action (place line i).bag
       own_bag = k.bag.ordered_is ∙ ap (rest x.action) (consistent_bag (tidy j) i j.within)
 
@@ -80,16 +77,16 @@ module _ {a : Arrays} {x : Step} {i : ℕ} {taken : Taken} {plan : Plan} (k : Pl
       own_result : (line_in a₁ ≡ line₁) × Consistent a₁
       own_result = go taken.found refl own-stored
         where
-          go : (t : Bool) → taken.found ≡ t → OwnStored t (slot_of a i) taken.bag a bags₁ counts₁ → (line_in a₁ ≡ line₁) × Consistent a₁
+          go : (t : Bool) → taken.found ≡ t → OwnStored t (slot_of a i) taken.bag (with_station a (slot_of a i) d.station) a₁ → (line_in a₁ ≡ line₁) × Consistent a₁
           go true e p =
-              rw (p.0, p.1) (
+              rw p (
                 stored_line (tidy j) i j.within d.station taken.bag.messages taken.bag.count ∙ ap (λ (b : List Message). set line i (record { station = d.station; bag = b })) own_bag,
                 stored_consistent (tidy j) i j.within d.station taken.bag.messages taken.bag.count (named (decided j) (verdicts j goes).0) (k.bag.counted (consistent_count (tidy j) i j.within)),
               )
           go false e p =
               let same : rest x.action (place line i).bag ≡ (place line i).bag =
               unfound (decided j) (verdicts j goes).0 (rw (consistent_bag (tidy j) i j.within) at (sym k.bag.found_is ∙ e)) in
-              rw (p.0, p.1, same) (station_line (tidy j) i j.within d.station, station_consistent (tidy j) i j.within d.station (named (decided j) (verdicts j goes).0))
+              rw (p, same) (station_line (tidy j) i j.within d.station, station_consistent (tidy j) i j.within d.station (named (decided j) (verdicts j goes).0))
 
       own_line : line_in a₁ ≡ line₁
       own_line = own_result.0
@@ -97,55 +94,75 @@ module _ {a : Arrays} {x : Step} {i : ℕ} {taken : Taken} {plan : Plan} (k : Pl
       own_consistent : Consistent a₁
       own_consistent = own_result.1
 
+      own_entries : SameIndex a a₁
+      own_entries =
+          let same = own_index taken.found (slot_of a i) taken.bag (with_station a (slot_of a i) d.station) own-stored in
+          record { size = same.size; is = same.is }
+
+      own_receiver : (y : Option Sending) → receiver j y < a₁.n
+      own_receiver y = omega (arith, own_entries.size, receiver_bound j y)
+
+      own_slot : plan.first ≡ slot_of a₁ (receiver j one)
+      own_slot = rw own_entries.is (first_slot j)
+
       -- the first receiver's bag has room
-      pub first_room : (q : ℕ) (m : Message) → one ≡ To q m → (plan.first < 64) × (get_or a₁.counts plan.first 0 < 32)
-      first_room q m e =
-          let same : place line₁ (receiver j one) ≡ place line (receiver j one) = first_unmoved (decided j) (verdicts j goes).0 (record { to = q; message = m }) (rw e (here refl)) in
+      pub first_room : (y : Sending) → one ≡ Some y → (plan.first < 64) × (get_or a₁.counts plan.first 0 < 32)
+      first_room y e =
+          let same : place line₁ (receiver j one) ≡ place line (receiver j one) = first_unmoved (decided j) (verdicts j goes).0 (record { to = y.to; message = y.message }) (rw e (here refl)) in
           let count-is =
-          ap (λ (s : ℕ). get_or a₁.counts s 0) (first_slot j) ∙ own_consistent.tallied (receiver j one) (receiver_bound j one) ∙ ap (λ (l : Line). length (place l (receiver j one)).bag) own_line ∙ ap (λ (t : Node). length t.bag) same ∙ sym (first_count j) in
-          (omega (arith, first_slot j), omega (arith, count-is, sent_fits one _ q m e (fits j goes).0))
+          ap (λ (s : ℕ). get_or a₁.counts s 0) own_slot ∙ own_consistent.tallied (receiver j one) (own_receiver one) ∙ ap (λ (l : Line). length (place l (receiver j one)).bag) own_line ∙ ap (λ (t : Node). length t.bag) same ∙ sym (first_count j) in
+          (omega (arith, first_slot j), omega (arith, count-is, sent_fits one _ y e (fits j goes).0))
 
       -- the first message is stored, where one is sent
-      module _ (bags₂ : List (List Message)) (counts₂ : List ℕ) (first-arrived : Arrived one plan.first a₁ bags₂ counts₂) where
-        abbrev a₂ : Arrays
-        a₂ = with_bags a₁ bags₂ counts₂
-
+      module _ (a₂ : Arrays) (first-arrived : Arrived one plan.first a₁ a₂) where
         abbrev line₂ : Line
         line₂ = with_bag line₁ (receiver j one) (arrived one (place line₁ (receiver j one)).bag)
 
-        at_first : Arrived one (slot_of a₁ (receiver j one)) a₁ bags₂ counts₂
-        at_first = rw (first_slot j) at first-arrived
+        at_first : Arrived one (slot_of a₁ (receiver j one)) a₁ a₂
+        at_first = rw own_slot at first-arrived
 
         first_line : line_in a₂ ≡ line₂
-        first_line = rw own_line at (arrived_line own_consistent (receiver j one) (receiver_bound j one) one bags₂ counts₂ at_first)
+        first_line = rw own_line at (arrived_line own_consistent (receiver j one) (own_receiver one) one a₂ at_first)
 
         first_consistent : Consistent a₂
-        first_consistent = arrived_consistent own_consistent (receiver j one) (receiver_bound j one) one bags₂ counts₂ at_first
+        first_consistent = arrived_consistent own_consistent (receiver j one) (own_receiver one) one a₂ at_first
+
+        first_entries : SameIndex a₁ a₂
+        first_entries = arrived_index one plan.first a₁ first-arrived
+
+        first_receiver : (y : Option Sending) → receiver j y < a₂.n
+        first_receiver y = omega (arith, first_entries.size, own_receiver y)
+
+        next_slot : plan.second ≡ slot_of a₂ (receiver j two)
+        next_slot = rw (first_entries.is, own_entries.is) (second_slot j)
 
         -- the second receiver's bag has room
-        pub second_room : (q : ℕ) (m : Message) → two ≡ To q m → (plan.second < 64) × (get_or counts₂ plan.second 0 < 32)
-        second_room q m e =
-            let same : place line₂ (receiver j two) ≡ place line (receiver j two) = second_unmoved (decided j) (verdicts j goes).0 (record { to = q; message = m }) (rw e (here refl)) in
+        pub second_room : (y : Sending) → two ≡ Some y → (plan.second < 64) × (get_or a₂.counts plan.second 0 < 32)
+        second_room y e =
+            let same : place line₂ (receiver j two) ≡ place line (receiver j two) = second_unmoved (decided j) (verdicts j goes).0 (record { to = y.to; message = y.message }) (rw e (here refl)) in
             let count-is =
-            ap (λ (s : ℕ). get_or counts₂ s 0) (second_slot j) ∙ first_consistent.tallied (receiver j two) (receiver_bound j two) ∙ ap (λ (l : Line). length (place l (receiver j two)).bag) first_line ∙ ap (λ (t : Node). length t.bag) same ∙ sym (second_count j) in
-            (omega (arith, second_slot j), omega (arith, count-is, sent_fits two _ q m e (fits j goes).1))
+            ap (λ (s : ℕ). get_or a₂.counts s 0) next_slot ∙ first_consistent.tallied (receiver j two) (first_receiver two) ∙ ap (λ (l : Line). length (place l (receiver j two)).bag) first_line ∙ ap (λ (t : Node). length t.bag) same ∙ sym (second_count j) in
+            (omega (arith, second_slot j), omega (arith, count-is, sent_fits two _ y e (fits j goes).1))
 
         -- the second message is stored, where one is sent
-        module _ (bags₃ : List (List Message)) (counts₃ : List ℕ) (second-arrived : Arrived two plan.second a₂ bags₃ counts₃) where
-          abbrev a₃ : Arrays
-          a₃ = with_bags a₁ bags₃ counts₃
-
+        module _ (a₃ : Arrays) (second-arrived : Arrived two plan.second a₂ a₃) where
           abbrev line₃ : Line
           line₃ = with_bag line₂ (receiver j two) (arrived two (place line₂ (receiver j two)).bag)
 
-          at_second : Arrived two (slot_of a₂ (receiver j two)) a₂ bags₃ counts₃
-          at_second = rw (second_slot j) at second-arrived
+          at_second : Arrived two (slot_of a₂ (receiver j two)) a₂ a₃
+          at_second = rw next_slot at second-arrived
 
           second_line : line_in a₃ ≡ line₃
-          second_line = rw first_line at (arrived_line first_consistent (receiver j two) (receiver_bound j two) two bags₃ counts₃ at_second)
+          second_line = rw first_line at (arrived_line first_consistent (receiver j two) (first_receiver two) two a₃ at_second)
 
           second_consistent : Consistent a₃
-          second_consistent = arrived_consistent first_consistent (receiver j two) (receiver_bound j two) two bags₃ counts₃ at_second
+          second_consistent = arrived_consistent first_consistent (receiver j two) (first_receiver two) two a₃ at_second
+
+          -- no entry has come or gone
+          pub entries_stay : (a₃.n ≡ a.n) × (i < a₃.n)
+          entries_stay =
+              let e : a₃.n ≡ a.n = (arrived_index two plan.second a₂ second-arrived).size ∙ first_entries.size ∙ own_entries.size in
+              (e, omega (arith, j.within))
 
           -- the station stays
           pub stays : d.gone ≡ false → (step line x ≡ done (line_in a₃)) × BetweenSteps a₃
@@ -154,7 +171,7 @@ module _ {a : Arrays} {x : Step} {i : ℕ} {taken : Taken} {plan : Plan} (k : Pl
               (is, record { consistent = second_consistent; sound = step_sound line x j.between.sound is })
 
           -- the station goes
-          pub leaves : d.gone ≡ true → {index : List ℕ} → Dropped a.n i a.index index → (step line x ≡ done (line_in (shortened a₃ index))) × BetweenSteps (shortened a₃ index)
+          pub leaves : d.gone ≡ true → {index : List ℕ} → Dropped a₃.n i a₃.index index → (step line x ≡ done (line_in (shortened a₃ index))) × BetweenSteps (shortened a₃ index)
           leaves leave dropped =
               let is =
               step_leaves (decided j) (verdicts j goes).0 _ _ (first_count j) (second_count j) (verdicts j goes).1 leave ∙ ap done (ap (remove_at i) (sym second_line) ∙ sym (dropped_line second_consistent i dropped)) in

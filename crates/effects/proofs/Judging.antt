@@ -1,5 +1,7 @@
 -- One step over the arrays judged: what is read and worked out before anything is stored tells whether the step is done.
 use Prim.Native.Nat.{ℕ, ◌<◌}
+use Rattle.std.specs.Prelude.{Ok, Err, Option}
+use Rattle.line.specs.Types.{Ending, Leave}
 use mathlib.Core.Path.{◌≡◌, refl, sym, ap, ◌∙◌}
 use mathlib.Core.Bool.{Bool, true, false, ◌&&◌}
 use mathlib.Core.List.{List}
@@ -8,11 +10,9 @@ use lib.Dec.{eqb}
 use lib.ListN.{length, get_or, take}
 use lib.Seq.{get_or-take}
 use Rattle.lists.specs.Places.{first_at}
-use Rattle.lists.specs.Numbers.{Rising}
 use Rattle.lists.proofs.Lists.{and_both}
 use Rattle.lists.proofs.Numbers.{found_there}
 use Rattle.line.specs.declared.Step.{Step}
-use Rattle.line.specs.declared.Leave.{Leave}
 use Rattle.line.specs.declared.Refusal.{Refusal}
 use Rattle.line.specs.declared.Refusal.TheVariants.{Full}
 use Rattle.line.specs.Answer.{refused, is_done}
@@ -23,11 +23,10 @@ use Rattle.line.proofs.Places.{place}
 use Rattle.bag.specs.Held.{ordered}
 use Rattle.index.specs.Index.{slot_in, numbers_in}
 use Rattle.index.proofs.Entries.{numbers_length}
-use Rattle.arrays.specs.Arrays.{Arrays, node_at, line_in}
+use Rattle.arrays.specs.declared.Arrays.{Arrays}
+use Rattle.arrays.specs.Arrays.{node_at, line_in}
 use Rattle.arrays.proofs.Lines.{slot_of}
 use Rattle.rules.specs.declared.Sending.{Sending}
-use Rattle.rules.specs.declared.Verdict.{Verdict}
-use Rattle.rules.specs.declared.Verdict.TheVariants.{Done, Refused}
 use Rattle.rules.specs.declared.Decision.{Decision}
 use Rattle.rules.specs.Decided.{is_found}
 use Rattle.moves.specs.declared.Plan.{Plan}
@@ -47,10 +46,6 @@ pub record Judged (a : Arrays) (x : Step) (i : ℕ) (f : Bool) (plan : Plan) : T
   pub asked : is_exit x.action ≡ true → leave ≡ leave_of (line_in a) (node_at a (slot_of a i))
   pub holds : f ≡ is_found x.action (ordered (bag_at a (slot_of a i)))
   pub plans : Plans (take a.n a.index) a.counts i leave f (get_or a.stations (slot_of a i) nobody.station) x.action plan
-
--- what a station asks of the index before it plans
-pub plan_asks : {a : Arrays} (t : Consistent a) {i : ℕ} → i < a.n → (i < length (take a.n a.index)) × Rising (numbers_in (take a.n a.index))
-plan_asks t h = (omega (arith, consistent_taken t), t.rising)
 
 module _ {a : Arrays} {x : Step} {i : ℕ} {f : Bool} {plan : Plan} (k : Judged a x i f plan) where
   abbrev line : Line
@@ -77,20 +72,20 @@ module _ {a : Arrays} {x : Step} {i : ℕ} {f : Bool} {plan : Plan} (k : Judged 
   in_line_lem = rw (consistent_length tidy) k.within
 
   -- where a receiver stands in the line, and its slot
-  abbrev pub receiver : Sending → ℕ
+  abbrev pub receiver : Option Sending → ℕ
   receiver y = receiver_of (numbers line) y i
 
-  pub receiver_bound : (y : Sending) → receiver y < a.n
+  pub receiver_bound : (y : Option Sending) → receiver y < a.n
   receiver_bound y = rw (consistent_length tidy) at (receiver_within line y i in_line_lem)
 
-  receiver_slot : (y : Sending) {r : ℕ} → r ≡ slot_in (get_or entries (receiver_of (numbers_in entries) y i) 0) → r ≡ slot_of a (receiver y)
+  receiver_slot : (y : Option Sending) {r : ℕ} → r ≡ slot_in (get_or entries (receiver_of (numbers_in entries) y i) 0) → r ≡ slot_of a (receiver y)
   receiver_slot y e =
       e ∙ ap (λ (l : List ℕ). slot_in (get_or entries (receiver_of l y i) 0)) tidy.numbered ∙ ap slot_in (get_or-take a.n a.index (receiver y) 0 (receiver_bound y))
 
-  abbrev one : Sending
+  abbrev one : Option Sending
   one = d.sendings.first
 
-  abbrev two : Sending
+  abbrev two : Option Sending
   two = d.sendings.second
 
   pub first_slot : plan.first ≡ slot_of a (receiver one)
@@ -117,17 +112,17 @@ module _ {a : Arrays} {x : Step} {i : ℕ} {f : Bool} {plan : Plan} (k : Judged 
   }
 
   -- the step is refused
-  pub refuses : {r : Refusal} → plan.verdict ≡ Refused r → step line x ≡ refused r
+  pub refuses : {r : Refusal} → plan.verdict ≡ Err r → step line x ≡ refused r
   refuses {r} p = go d.verdict (room_for one c₁ && room_for two c₂) refl refl (sym k.plans.verdict ∙ p)
     where
-      go : (v : Verdict) (t : Bool) → d.verdict ≡ v → (room_for one c₁ && room_for two c₂) ≡ t → verdict_in v t ≡ Refused r → step line x ≡ refused r
-      go Done true f g e = absurd (let z : ◌≡◌ {A = ℕ} 0 1 = cc in omega arith)
-      go Done false f g e = step_full decided f c₁ c₂ first_count second_count g ∙ ap refused (let z : Full ≡ r = cc in z)
-      go (Refused q) t f g e = step_refused decided q f ∙ ap refused (let z : q ≡ r = cc in z)
+      go : (v : Ending) (t : Bool) → d.verdict ≡ v → (room_for one c₁ && room_for two c₂) ≡ t → verdict_in v t ≡ Err r → step line x ≡ refused r
+      go (Ok _) true f g e = absurd (let z : ◌≡◌ {A = ℕ} 0 1 = cc in omega arith)
+      go (Ok _) false f g e = step_full decided f c₁ c₂ first_count second_count g ∙ ap refused (let z : Full ≡ r = cc in z)
+      go (Err q) t f g e = step_refused decided q f ∙ ap refused (let z : q ≡ r = cc in z)
 
   -- what a step that is done rests on: the station does not refuse, and both receivers have room
-  module _ (goes : plan.verdict ≡ Done) where
-    pub verdicts : (d.verdict ≡ Done) × ((room_for one c₁ && room_for two c₂) ≡ true)
+  module _ (goes : plan.verdict ≡ Ok tt) where
+    pub verdicts : (d.verdict ≡ Ok tt) × ((room_for one c₁ && room_for two c₂) ≡ true)
     verdicts = done_means d c₁ c₂ (sym k.plans.verdict ∙ goes)
 
     pub fits : (room_for one c₁ ≡ true) × (room_for two c₂ ≡ true)
@@ -139,6 +134,6 @@ module _ {a : Arrays} {x : Step} {i : ℕ} {f : Bool} {plan : Plan} (k : Judged 
     accepts = ap is_done (step_fits decided verdicts.0 c₁ c₂ first_count second_count verdicts.1)
 
   -- so the verdict tells whether it is done
-  pub tells : (plan.verdict ≡ Done → is_done (step line x) ≡ true) × ((r : Refusal) → plan.verdict ≡ Refused r → is_done (step line x) ≡ false)
+  pub tells : (plan.verdict ≡ Ok tt → is_done (step line x) ≡ true) × ((r : Refusal) → plan.verdict ≡ Err r → is_done (step line x) ≡ false)
   unfolding is_done
   tells = (accepts, λ r p. ap is_done (refuses p))

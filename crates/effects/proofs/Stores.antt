@@ -1,5 +1,6 @@
 -- The arrays between two steps, and what each store of a step does to the line that they hold.
 use Prim.Native.Nat.{ℕ, ◌-◌, ◌≤◌, ◌<◌}
+use Rattle.std.specs.Prelude.{Option, Some, None}
 use mathlib.Core.Path.{◌≡◌, refl, sym, ap, ◌∙◌, ap₂}
 use mathlib.Core.Logic.{◌≢◌}
 use mathlib.Core.Bool.{Bool, true, false}
@@ -23,10 +24,10 @@ use Rattle.line.proofs.Places.{place, with_bag}
 use Rattle.bag.specs.declared.Bag.{Bag}
 use Rattle.bag.specs.Held.{held, ordered}
 use Rattle.index.specs.Index.{slot_in, number_in, numbers_in}
-use Rattle.arrays.specs.Arrays.{Arrays, node_in, node_at, line_in}
+use Rattle.arrays.specs.declared.Arrays.{Arrays}
+use Rattle.arrays.specs.Arrays.{node_in, node_at, line_in}
 use Rattle.arrays.proofs.Lines.{slot_of, Unshared, stored, shortened, line_length, line_get, line_set, line_without}
 use Rattle.rules.specs.declared.Sending.{Sending}
-use Rattle.rules.specs.declared.Sending.TheVariants.{Nothing, To}
 use Rattle.moves.specs.Sends.{PutIn}
 use Rattle.effects.proofs.Posting.{arrived}
 
@@ -58,30 +59,43 @@ with_bags a bags counts = record { n = a.n; index = a.index; stations = a.statio
 abbrev pub with_station : Arrays → ℕ → declared.Station → Arrays
 with_station a k s = record { n = a.n; index = a.index; stations = set a.stations k s; bags = a.bags; counts = a.counts }
 
--- what storing a bag in slot k makes of the bags and the counts, where a message was taken out of it
-abbrev pub OwnStored : Bool → ℕ → Bag → Arrays → List (List Message) → List ℕ → Type 0
-OwnStored true k b a bags counts = (bags ≡ set a.bags k b.messages) × (counts ≡ set a.counts k b.count)
-OwnStored false k b a bags counts = (bags ≡ a.bags) × (counts ≡ a.counts)
+-- what storing a bag in slot k makes of the arrays, where a message was taken out of it
+abbrev pub OwnStored : Bool → ℕ → Bag → Arrays → Arrays → Type 0
+OwnStored true k b a after = after ≡ with_bags a (set a.bags k b.messages) (set a.counts k b.count)
+OwnStored false k b a after = after ≡ a
 
-module _ (k : ℕ) (b : Bag) (a : Arrays) (bags : List (List Message)) (counts : List ℕ) {t : Bool} where
-  pub own_taken : t ≡ true → bags ≡ set a.bags k b.messages → counts ≡ set a.counts k b.count → OwnStored t k b a bags counts
-  own_taken e f g = rw e (f, g)
+module _ (k : ℕ) (b : Bag) (a : Arrays) {after : Arrays} {t : Bool} where
+  pub own_taken : t ≡ true → after ≡ with_bags a (set a.bags k b.messages) (set a.counts k b.count) → OwnStored t k b a after
+  own_taken e f = rw e f
 
-  pub own_untaken : t ≡ false → bags ≡ a.bags → counts ≡ a.counts → OwnStored t k b a bags counts
-  own_untaken e f g = rw e (f, g)
+  pub own_untaken : t ≡ false → after ≡ a → OwnStored t k b a after
+  own_untaken e f = rw e f
 
--- what storing a message in slot k makes of the bags and the counts, where one is sent
-abbrev pub Arrived : Sending → ℕ → Arrays → List (List Message) → List ℕ → Type 0
-Arrived Nothing k a bags counts = (bags ≡ a.bags) × (counts ≡ a.counts)
-Arrived (To q m) k a bags counts = (new : List Message) × PutIn (get_or a.bags k []) a.counts k m new counts × (bags ≡ set a.bags k new)
+-- what storing a message in slot k makes of the arrays, where one is sent
+abbrev pub Arrived : Option Sending → ℕ → Arrays → Arrays → Type 0
+Arrived None k a after = after ≡ a
+Arrived (Some x) k a after = (new : List Message) × (counts : List ℕ) × PutIn (get_or a.bags k []) a.counts k x.message new counts × (after ≡ with_bags a (set a.bags k new) counts)
 
-module _ (x : Sending) (k : ℕ) (a : Arrays) (bags : List (List Message)) (counts : List ℕ) where
-  pub arrived_one : (q : ℕ) (m : Message) → x ≡ To q m → (new : List Message) {counts' : List ℕ} → PutIn (get_or a.bags k []) a.counts k m new counts'
-      → bags ≡ set a.bags k new → counts ≡ counts' → Arrived x k a bags counts
-  arrived_one q m e new p f g = rw e (new, rw g p, f)
+module _ (x : Option Sending) (k : ℕ) (a : Arrays) {after : Arrays} where
+  pub arrived_one : (y : Sending) → x ≡ Some y → {new : List Message} {counts : List ℕ} → PutIn (get_or a.bags k []) a.counts k y.message new counts
+      → after ≡ with_bags a (set a.bags k new) counts → Arrived x k a after
+  arrived_one y e {new} {counts} p f = rw e (new, counts, p, f)
 
-  pub arrived_none : x ≡ Nothing → bags ≡ a.bags → counts ≡ a.counts → Arrived x k a bags counts
-  arrived_none e f g = rw e (f, g)
+  pub arrived_none : x ≡ None → after ≡ a → Arrived x k a after
+  arrived_none e f = rw e f
+
+-- the same entries
+pub record SameIndex (a after : Arrays) : Type 0 where
+  pub size : after.n ≡ a.n
+  pub is : after.index ≡ a.index
+
+pub own_index : (t : Bool) (k : ℕ) (b : Bag) (a : Arrays) {after : Arrays} → OwnStored t k b a after → SameIndex a after
+own_index true k b a p = rw p (record { size = refl; is = refl })
+own_index false k b a p = rw p (record { size = refl; is = refl })
+
+pub arrived_index : (x : Option Sending) (k : ℕ) (a : Arrays) {after : Arrays} → Arrived x k a after → SameIndex a after
+arrived_index None k a p = rw p (record { size = refl; is = refl })
+arrived_index (Some x) k a p = rw p.3 (record { size = refl; is = refl })
 
 module _ {a : Arrays} (t : Consistent a) where
   abbrev line : Line
@@ -183,24 +197,25 @@ module _ {a : Arrays} (t : Consistent a) where
     unmoved : (new : List Message) (c : ℕ) → with_bags a (set a.bags slot new) (set a.counts slot c) ≡ stored a slot standing new c
     unmoved new c = ap (λ (l : List declared.Station). record { n = a.n; index = a.index; stations = l; bags = set a.bags slot new; counts = set a.counts slot c }) (sym (set-get_or a.stations slot nobody.station))
 
-    pub arrived_line : (x : Sending) (bags : List (List Message)) (counts : List ℕ) → Arrived x slot a bags counts
-        → line_in (with_bags a bags counts) ≡ with_bag line i (arrived x (place line i).bag)
-    arrived_line Nothing bags counts p = rw (p.0, p.1) (sym (set-get_or line i nobody))
-    arrived_line (To q m) bags counts p =
-        let r = p.1 in
-        rw (p.2, r.counts_are, unmoved p.0 r.count)
-        (stored_line standing p.0 r.count
+    pub arrived_line : (x : Option Sending) (after : Arrays) → Arrived x slot a after → line_in after ≡ with_bag line i (arrived x (place line i).bag)
+    arrived_line None after p = rw p (sym (set-get_or line i nobody))
+    arrived_line (Some x) after p =
+        let new = p.0 in
+        let r = p.2 in
+        rw (p.3, r.counts_are, unmoved new r.count)
+        (stored_line standing new r.count
         ∙ ap (λ (b : List Message). set line i (record { station = standing; bag = b })) (r.put.ordered_is ∙ rw consistent_bag)
-        ∙ ap (λ (s : declared.Station). set line i (record { station = s; bag = arrived (To q m) (place line i).bag })) (sym (ap (λ (s : Node). s.station) consistent_place)))
+        ∙ ap (λ (s : declared.Station). set line i (record { station = s; bag = arrived (Some x) (place line i).bag })) (sym (ap (λ (s : Node). s.station) consistent_place)))
 
-    pub arrived_consistent : (x : Sending) (bags : List (List Message)) (counts : List ℕ) → Arrived x slot a bags counts → Consistent (with_bags a bags counts)
-    arrived_consistent Nothing bags counts p = rw (p.0, p.1) t
-    arrived_consistent (To q m) bags counts p =
-        let r = p.1 in
+    pub arrived_consistent : (x : Option Sending) (after : Arrays) → Arrived x slot a after → Consistent after
+    arrived_consistent None after p = rw p t
+    arrived_consistent (Some x) after p =
+        let new = p.0 in
+        let r = p.2 in
         let b = bag_at a slot in
-        let size : r.count ≡ length (take r.count p.0) =
-        r.put.counted ∙ omega (arith, sort-length precedes (take r.count p.0), ap length r.put.ordered_is, insert-length precedes m (ordered b), sort-length precedes (held b), consistent_count) in
-        rw (p.2, r.counts_are, unmoved p.0 r.count) (stored_consistent standing p.0 r.count (sym (ap number consistent_place)) size)
+        let size : r.count ≡ length (take r.count new) =
+        r.put.counted ∙ omega (arith, sort-length precedes (take r.count new), ap length r.put.ordered_is, insert-length precedes x.message (ordered b), sort-length precedes (held b), consistent_count) in
+        rw (p.3, r.counts_are, unmoved new r.count) (stored_consistent standing new r.count (sym (ap number consistent_place)) size)
 
 -- an index without entry i
 pub record Dropped (n i : ℕ) (old new : List ℕ) : Type 0 where

@@ -1,5 +1,7 @@
 -- The steps of a list one after another: what is done, what is left, and how the run ends.
 use Prim.Native.Nat.{ℕ, ◌+◌, ◌*◌, ◌/◌, ◌≤◌, ◌<◌}
+use Rattle.std.specs.Prelude.{Ok, Err}
+use Rattle.line.specs.Types.{Reading}
 use mathlib.Core.Path.{◌≡◌, refl, sym, ◌∙◌}
 use mathlib.Core.List.{List}
 use native.Mathlib.Omega.{arith}
@@ -7,14 +9,9 @@ use lib.Dec.{eqb}
 use lib.ListN.{length, take}
 use Rattle.lists.specs.Places.{first_at}
 use Rattle.lists.proofs.Numbers.{found_member}
-use Rattle.line.specs.declared.Message.{Message}
-use Rattle.line.specs.declared.Station as declared
 use Rattle.line.specs.declared.Step as steps-are
 use Rattle.line.specs.declared.Refusal.{Refusal}
-use Rattle.line.specs.declared.Refusal.TheVariants.{Malformed, Absent}
-use Rattle.line.specs.declared.Reading.{Reading}
-use Rattle.line.specs.declared.Reading.TheVariants.{Step, Refused}
-use Rattle.line.specs.declared.Ending.TheVariants.{Complete, Stopped}
+use Rattle.line.specs.declared.Refusal.TheVariants.{Absent}
 use Rattle.line.specs.Answer.{Answer, refused, done, ◌>>=◌}
 use Rattle.line.specs.Node.{Line, Present}
 use Rattle.line.specs.Step.{step}
@@ -25,9 +22,9 @@ use Rattle.index.specs.Index.{numbers_in}
 use Rattle.index.proofs.Entries.{numbers_length}
 use Rattle.table.specs.Blocks.{line_of}
 use Rattle.table.specs.Fault.{fault_of}
-use Rattle.table.specs.Index.{index_array}
-use Rattle.arrays.specs.Arrays.{Arrays, line_in}
-use Rattle.arrays.specs.Reading.{stations_of, bags_of, counts_of}
+use Rattle.arrays.specs.declared.Arrays.{Arrays}
+use Rattle.arrays.specs.Arrays.{line_in}
+use Rattle.arrays.specs.Reading.{arrays_of}
 use Rattle.table.proofs.Lines.{clean_few}
 use Rattle.arrays.proofs.Tables.{line_of_table}
 use Rattle.steps.specs.Steps.{step_at, steps_of}
@@ -46,19 +43,18 @@ pub record Underway (table steps room₀ room : List ℕ) (total : ℕ) (a : Arr
   pub same : run (line_of table) (steps_of steps) ≡ ahead k (run (line_in a) (readings_from (step_at steps) total k))
 
 -- a run over an accepted table begins
-pub underway_start : {t steps room : List ℕ} {index : List ℕ} {stations : List declared.Station} {bags : List (List Message)} {counts : List ℕ}
-    → fault_of t ≡ 0 → length steps / 12 ≤ 4096 → length t ≤ length room → index ≡ index_array t → stations ≡ stations_of t → bags ≡ bags_of t → counts ≡ counts_of t
-    → Underway t steps room room (length steps / 12) (record { n = length t / 512; index = index; stations = stations; bags = bags; counts = counts }) 0
+pub underway_start : {t steps room : List ℕ} {a : Arrays} → fault_of t ≡ 0 → length steps / 12 ≤ 4096 → length t ≤ length room → a ≡ arrays_of t
+    → Underway t steps room room (length steps / 12) a 0
 unfolding steps_of
-underway_start {t} {steps} clean few wide p q r u = record {
+underway_start {t} {steps} clean few wide p = rw p (record {
   still = refl;
   long = refl;
   enough = omega arith;
   within = omega arith;
   list = few;
-  between = rw (p, q, r, u) (starts_between t clean);
-  same = rw (p, q, r, u, line_of_table t (clean_few t clean)) (readings_start (step_at steps) (length steps / 12) (line_of t));
-}
+  between = starts_between t clean;
+  same = rw (line_of_table t (clean_few t clean)) (readings_start (step_at steps) (length steps / 12) (line_of t));
+})
 
 module _ {table steps room₀ room : List ℕ} {total : ℕ} {a : Arrays} {k : ℕ} (g : Underway table steps room₀ room total a k) where
   abbrev line : Line
@@ -68,29 +64,32 @@ module _ {table steps room₀ room : List ℕ} {total : ℕ} {a : Arrays} {k : �
   whole = run (line_of table) (steps_of steps)
 
   -- no step is left
-  pub underway_end : total ≤ k → ended Complete k line ≡ whole
-  underway_end h = readings_end (step_at steps) total k line g.same h
+  pub underway_end : total ≤ k → ended (Ok tt) total line ≡ whole
+  underway_end h =
+      let w = g.within in
+      let all : total ≡ k = omega arith in
+      rw all (readings_end (step_at steps) total k line g.same h)
 
   module _ (h : k < total) where
-    halts : (f : Refusal) → try line (step_at steps k) ≡ refused f → ended (Stopped f) k line ≡ whole
+    halts : (f : Refusal) → try line (step_at steps k) ≡ refused f → ended (Err f) k line ≡ whole
     halts = readings_stop (step_at steps) total k line g.same h
 
     -- the next step cannot be read
-    pub underway_malformed : step_at steps k ≡ Refused Malformed → ended (Stopped Malformed) k line ≡ whole
+    pub underway_unread : (why : Refusal) → step_at steps k ≡ Err why → ended (Err why) k line ≡ whole
     unfolding try
-    underway_malformed e = halts Malformed (rw e)
+    underway_unread why e = halts why (rw e)
 
-    module _ (x : steps-are.Step) {r : Reading} (p : r ≡ step_at steps k) (q : r ≡ Step x) where
+    module _ (x : steps-are.Step) {r : Reading} (p : r ≡ step_at steps k) (q : r ≡ Ok x) where
       tried : {b : Answer Line} → step line x ≡ b → try line (step_at steps k) ≡ b
       unfolding try
       tried e = rw (sym p ∙ q) e
 
       -- it is refused
-      pub underway_refused : {f : Refusal} → step line x ≡ refused f → ended (Stopped f) k line ≡ whole
+      pub underway_refused : {f : Refusal} → step line x ≡ refused f → ended (Err f) k line ≡ whole
       underway_refused {f} e = halts f (tried e)
 
       -- no station has its number
-      pub underway_absent : {i : ℕ} → i ≡ first_at (eqb x.station) (numbers_in (take a.n a.index)) → a.n ≤ i → ended (Stopped Absent) k line ≡ whole
+      pub underway_absent : {i : ℕ} → i ≡ first_at (eqb x.station) (numbers_in (take a.n a.index)) → a.n ≤ i → ended (Err Absent) k line ≡ whole
       unfolding step ◌>>=◌
       underway_absent {i} e f =
           let t = g.between.consistent in

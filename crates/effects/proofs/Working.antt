@@ -1,9 +1,10 @@
 -- A step worked out: what the decision of the station at place i and the bags at the receivers' places say is what the step does.
 use Prim.Native.Nat.{ℕ, ◌<◌}
+use Rattle.std.specs.Prelude.{Some, None, Ok, Err, Option}
+use Rattle.line.specs.Types.{Leave}
 use mathlib.Core.Path.{◌≡◌, refl, sym, ap, ap₂, ◌∙◌}
 use mathlib.Core.Logic.{◌≢◌}
 use mathlib.Core.Bool.{Bool, true, false, cond, ◌&&◌}
-use mathlib.Core.Option.{none, some}
 use mathlib.Core.List.Memᴰ
 use mathlib.Core.List.{List, Memᴰ as Member}
 use lib.ListN.{length, get_or, set, length-set, length-map}
@@ -13,8 +14,6 @@ use Rattle.line.specs.declared.Message.{Message}
 use Rattle.line.specs.declared.Action.{Action}
 use Rattle.line.specs.declared.Action.TheVariants.{Timeout, Deliver, Exit}
 use Rattle.line.specs.declared.Step as declared
-use Rattle.line.specs.declared.Leave.{Leave}
-use Rattle.line.specs.declared.Leave.TheVariants.{May}
 use Rattle.line.specs.declared.Refusal.{Refusal}
 use Rattle.line.specs.declared.Refusal.TheVariants.{NotInBag, Full}
 use Rattle.lists.specs.Lists.{all}
@@ -36,7 +35,6 @@ use Rattle.lists.specs.Places.{remove_at}
 use Rattle.lists.proofs.Lists.{all_append}
 use Rattle.lists.proofs.Elements.{member_at, map_at, remove_set}
 use Rattle.rules.specs.declared.Sending.{Sending}
-use Rattle.rules.specs.declared.Verdict.TheVariants.{Done, Refused}
 use Rattle.rules.specs.declared.Decision.{Decision}
 use Rattle.rules.specs.Decided.{sent, both_sent, rest, effect, decided, Decides, is_found}
 use Rattle.moves.specs.Holders.{is_exit}
@@ -77,12 +75,12 @@ module _ {line : Line} {x : declared.Step} {i : ℕ} {l : Leave} {d : Decision} 
       ∙ ap (λ (a : Answer Effect). a >>= (λ (e : Effect). commit line (number here_is) e)) acts
 
   -- the station itself refuses
-  pub step_refused : (r : Refusal) → d.verdict ≡ Refused r → step line x ≡ refused r
+  pub step_refused : (r : Refusal) → d.verdict ≡ Err r → step line x ≡ refused r
   unfolding ◌>>=◌
   step_refused r e = steps ∙ ap (λ v. decided v (effect d left) >>= (λ (e : Effect). commit line (number here_is) e)) e
 
   -- it does not
-  module _ (go : d.verdict ≡ Done) where
+  module _ (go : d.verdict ≡ Ok tt) where
     acted : act (leave_of line here_is) here_is x.action ≡ done (effect d left)
     acted = acts ∙ ap (λ v. decided v (effect d left)) go
 
@@ -103,7 +101,7 @@ module _ {line : Line} {x : declared.Step} {i : ℕ} {l : Leave} {d : Decision} 
     sided = k.sound.accepted.sided here_is there_is
 
     outcome : LinksKept line (number here_is) (Linked here_is) (effect d left).after (effect d left).sends
-    outcome = act_links line here_is sided (k.sound.accepted.small here_is there_is) (leave_of line here_is) (leave_tested line here_is May).0 x.action acted
+    outcome = act_links line here_is sided (k.sound.accepted.small here_is there_is) (leave_of line here_is) (leave_tested line here_is (Ok tt)).0 x.action acted
 
     clear : Clear (number here_is) (both_sent d.sendings)
     clear = clear_act here_is sided (leave_of line here_is) x.action acted
@@ -112,7 +110,7 @@ module _ {line : Line} {x : declared.Step} {i : ℕ} {l : Leave} {d : Decision} 
     reached : (m : Send) → Member m (both_sent d.sendings) → Linked here_is m.to
     reached = of d.gone outcome
       where
-        of : (g : Bool) → LinksKept line (number here_is) (Linked here_is) (cond g none (some (record { station = d.station; bag = left }))) (both_sent d.sendings)
+        of : (g : Bool) → LinksKept line (number here_is) (Linked here_is) (cond g None (Some (record { station = d.station; bag = left }))) (both_sent d.sendings)
             → (m : Send) → Member m (both_sent d.sendings) → Linked here_is m.to
         of true o m = o.fair.reaches m
         of false o m = o.fair.reaches m
@@ -120,7 +118,7 @@ module _ {line : Line} {x : declared.Step} {i : ℕ} {l : Leave} {d : Decision} 
     pub named : d.station.number ≡ number here_is
     named = of d.gone refl outcome
       where
-        of : (g : Bool) → d.gone ≡ g → LinksKept line (number here_is) (Linked here_is) (cond g none (some (record { station = d.station; bag = left }))) (both_sent d.sendings)
+        of : (g : Bool) → d.gone ≡ g → LinksKept line (number here_is) (Linked here_is) (cond g None (Some (record { station = d.station; bag = left }))) (both_sent d.sendings)
             → d.station.number ≡ number here_is
         of true e o = ap (λ s. s.number) (k.decides.itself e)
         of false e o = o.named
@@ -129,10 +127,10 @@ module _ {line : Line} {x : declared.Step} {i : ℕ} {l : Leave} {d : Decision} 
     known m h = k.sound.accepted.known here_is there_is m.to (reached m h)
 
     -- what the station itself stores
-    abbrev one : Sending
+    abbrev one : Option Sending
     one = d.sendings.first
 
-    abbrev two : Sending
+    abbrev two : Option Sending
     two = d.sendings.second
 
     abbrev stored : Line
@@ -161,7 +159,7 @@ module _ {line : Line} {x : declared.Step} {i : ℕ} {l : Leave} {d : Decision} 
     known_two m h = known m (Memᴰ.append_right (sent one) h)
 
     -- a receiver is not the sender
-    elsewhere : (y : Sending) → ((m : Send) → Member m (sent y) → Present line m.to) → ((m : Send) → Member m (sent y) → Member m (both_sent d.sendings))
+    elsewhere : (y : Option Sending) → ((m : Send) → Member m (sent y) → Present line m.to) → ((m : Send) → Member m (sent y) → Member m (both_sent d.sendings))
         → (m : Send) → Member m (sent y) → receiver_of (numbers line) y i ≢ i
     elsewhere y there-are among m h e = clear.away m (among m h) (sym (receiver_there line y i there-are m h) ∙ ap (λ (j : ℕ). number (place line j)) e)
 
@@ -226,7 +224,7 @@ module _ {line : Line} {x : declared.Step} {i : ℕ} {l : Leave} {d : Decision} 
         unfolding replace
         step_stays e =
             step_fits
-            ∙ ap (λ (g : Bool). done (send_all (both_sent d.sendings) (replace (number here_is) (cond g none (some (record { station = d.station; bag = left }))) line))) e
+            ∙ ap (λ (g : Bool). done (send_all (both_sent d.sendings) (replace (number here_is) (cond g None (Some (record { station = d.station; bag = left }))) line))) e
             ∙ ap (λ (l : Line). done (send_all (both_sent d.sendings) l))
             (change_at (number here_is) (λ (t : Node). record { station = d.station; bag = left }) line i nobody k.sound.written.rising k.within refl)
             ∙ ap done posted
@@ -241,7 +239,7 @@ module _ {line : Line} {x : declared.Step} {i : ℕ} {l : Leave} {d : Decision} 
             let n = number here_is in
             let at : number (place after i) ≡ n = sym (map_at number after i nobody 0 (after_within after same)) ∙ ap (λ (l : List ℕ). get_or l i 0) same ∙ map_at number line i nobody 0 k.within in
             step_fits
-            ∙ ap (λ (g : Bool). done (send_all (both_sent d.sendings) (replace n (cond g none (some (record { station = d.station; bag = left }))) line))) e
+            ∙ ap (λ (g : Bool). done (send_all (both_sent d.sendings) (replace n (cond g None (Some (record { station = d.station; bag = left }))) line))) e
             ∙ ap (λ (l : Line). done (send_all (both_sent d.sendings) l)) (gone_first ∙ sym gone_stored)
             ∙ ap done (sym (send_without n (both_sent d.sendings) stored) ∙ without_at n after i nobody (rw same k.sound.written.rising) (after_within after same) at)
             ∙ ap (λ (l : Line). done (remove_at i l)) posted

@@ -1,6 +1,7 @@
 -- Runs over whole step lists: what a run writes is the table of the line it leaves; so receivers of alike tables agree, the line is
 -- never cut, and what is written is accepted when it is read again.
 use Prim.Native.Nat.{ℕ, ◌*◌, ◌%◌, ◌≤◌}
+use Rattle.std.specs.Prelude.{Ok}
 use mathlib.Core.Path.{◌≡◌, refl, sym, ap, ◌∙◌}
 use mathlib.Core.Logic.{◌↔◌}
 use mathlib.Core.Bool.{Bool, true, false, cond}
@@ -10,7 +11,6 @@ use lib.Dec.{eqb}
 use lib.ListN.{length, drop}
 use lib.Seq.{take_at}
 use borrow.Author.Tests.{eqb-true, eq-eqb, le-leb}
-use Rattle.line.specs.declared.Answered.TheVariants.{Ended}
 use Rattle.line.specs.Run as machine
 use Rattle.line.specs.Node.{Line, Present, Written, lower, with_bag_in_order, in_written_order}
 use Rattle.line.specs.Accepted.{Accepted}
@@ -138,7 +138,7 @@ receivers_agree t u steps room room' h k a l =
     go true e =
         let r : run_of t steps ≡ run_of u steps = ap (λ (x : Line). machine.run x (steps_of steps)) e in
         record {
-          answer = ap (λ (x : machine.Run). Ended x.ending) r;
+          answer = ap (λ (x : machine.Run). Ok x.ending) r;
           done = ap (λ (x : machine.Run). x.steps) r;
           stations = ap (λ (x : machine.Run). length x.line) r;
           written = table_in_ended t steps room h ∙ ap (λ (x : machine.Run). bytes_of x.line) r ∙ sym (table_in_ended u steps room' k);

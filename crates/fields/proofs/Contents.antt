@@ -1,5 +1,6 @@
 -- A message's content, to the numbers that say it, and back.
 use mathlib.Core.Path.{◌≡◌, refl, sym}
+use Rattle.std.specs.Prelude.{Some, None}
 use mathlib.Core.Bool.{Bool, true, false, cond}
 use Prim.Native.Nat.{ℕ, ◌<◌}
 use native.Mathlib.Omega.{arith}
@@ -11,15 +12,13 @@ use Rattle.line.specs.declared.Message.{Message}
 use Rattle.line.specs.Message.{kind, carried}
 use Rattle.line.specs.Accepted.{in_range}
 use Rattle.line.proofs.AcceptedTest.{in_range_lem}
-use Rattle.fields.specs.declared.Place.{Place}
-use Rattle.fields.specs.declared.Place.TheVariants.{Good, Bad}
-use Rattle.fields.specs.Fields.{place_of, is_good, message_of}
+use Rattle.fields.specs.Fields.{place_of, is_good, message_of, Place}
 
 -- an introduction's number is in range
 abbrev pub Introduces : Content → Type 0
 Introduces t = (q : ℕ) → t ≡ Introduction q → in_range q ≡ true
 
-pub content_back : (t : Content) → Introduces t → place_of (kind t) 0 (carried t) ≡ Good (record { content = t })
+pub content_back : (t : Content) → Introduces t → place_of (kind t) 0 (carried t) ≡ Some (record { content = t })
 unfolding place_of
 content_back (Introduction n) h = rw (h n refl)
 content_back RemoveLeft h = refl
@@ -58,9 +57,9 @@ introduces_number n h q e = let same : n ≡ q = cc in rw same at h
 abbrev picked : ℕ → Bool → Bool → Bool → Bool → Bool → Bool → Place
 picked n g one fits none two three =
     cond g
-    (cond one (cond fits (Good (record { content = Introduction n })) Bad)
-    (cond none (cond two (Good (record { content = RemoveLeft })) (cond three (Good (record { content = RemoveRight })) Bad)) Bad))
-    Bad
+    (cond one (cond fits (Some (record { content = Introduction n })) None)
+    (cond none (cond two (Some (record { content = RemoveLeft })) (cond three (Some (record { content = RemoveRight })) None)) None))
+    None
 
 picked_says : (k gap n : ℕ) (g one fits none two three : Bool) → eqb gap 0 ≡ g → eqb k 1 ≡ one → in_range n ≡ fits → eqb n 0 ≡ none → eqb k 2 ≡ two → eqb k 3 ≡ three
     → is_good (picked n g one fits none two three) ≡ true → Says k gap n (message_of (picked n g one fits none two three))

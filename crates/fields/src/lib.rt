@@ -9,13 +9,6 @@ ghost use Rattle.fields.specs.Fields.{layout_holds, neighbour_holds, count_holds
 
 use line::{Content, Message, Neighbour};
 
-// What a message place holds.
-#[derive(Clone, Copy)]
-pub enum Place {
-    Good(Message),
-    Bad,
-}
-
 // bytes 0-1: "layout number, 1"
 pub fn layout_holds(n: u16) -> bool
     ensures { result ≡ layout_holds n }
@@ -62,60 +55,56 @@ pub fn site_holds(code: u16) -> bool
 pub fn neighbour_of(n: u32) -> Neighbour
     ensures { result ≡ neighbour_of n }
 {
-    if n == 0 {
-        Neighbour::None
-    } else {
-        Neighbour::Station(n)
-    }
+    if n == 0 { None } else { Some(n) }
 }
 
-// What a place holds, of its kind, its two zero bytes and its number.
-pub fn place_of(kind: u16, gap: u16, number: u32) -> Place
+// The message of a place, of its kind, its two zero bytes and its number; none where the place is bad.
+pub fn place_of(kind: u16, gap: u16, number: u32) -> Option<Message>
     ensures { result ≡ place_of kind gap number }
 {
     if gap != 0 {
-        return Place::Bad;
+        return None;
     }
     if kind == 1 {
         if in_range(number) {
-            return Place::Good(Message {
+            return Some(Message {
                 content: Content::Introduction(number),
             });
         }
-        return Place::Bad;
+        return None;
     }
     if number != 0 {
-        return Place::Bad;
+        return None;
     }
     if kind == 2 {
-        return Place::Good(Message {
+        return Some(Message {
             content: Content::RemoveLeft,
         });
     }
     if kind == 3 {
-        return Place::Good(Message {
+        return Some(Message {
             content: Content::RemoveRight,
         });
     }
-    Place::Bad
+    None
 }
 
-pub fn is_good(place: Place) -> bool
+pub fn is_good(place: Option<Message>) -> bool
     ensures { result ≡ is_good place }
 {
     match place {
-        Place::Good(_) => true,
-        Place::Bad => false,
+        Some(_) => true,
+        None => false,
     }
 }
 
 // The message of a place; a bad place, which no accepted block has, stands for remove-left.
-pub fn message_of(place: Place) -> Message
+pub fn message_of(place: Option<Message>) -> Message
     ensures { result ≡ message_of place }
 {
     match place {
-        Place::Good(message) => message,
-        Place::Bad => Message {
+        Some(message) => message,
+        None => Message {
             content: Content::RemoveLeft,
         },
     }

@@ -6,12 +6,14 @@ use lib.ListN.{length, drop}
 use borrow.Author.Tests.{lt-leb, le-leb}
 use Rattle.words.specs.Writing.{Wrote}
 use Rattle.words.proofs.Written.{first_size, first_bytes}
-use Rattle.filling.specs.Filled.{filled_with, filled_as, refused_with}
+use Rattle.line.specs.declared.Fault.TheVariants.{ShortRoom}
+use Rattle.filling.specs.declared.Filled.{Filled}
+use Rattle.filling.specs.Filled.{refused, filled_with, filled_as}
 
 module _ (n : ℕ) (bytes room : List ℕ) where
-  pub room_short : length room < length bytes → refused_with 9 room ≡ filled_with n bytes room
+  pub room_short : length room < length bytes → {r : Filled} → r ≡ refused ShortRoom → filled_as r room ≡ filled_with n bytes room
   unfolding filled_with
-  room_short h = rw (lt-leb (length bytes) (length room) h)
+  room_short h e = rw (e, lt-leb (length bytes) (length room) h)
 
   pub room_filled : length bytes ≤ length room → {m : List ℕ} {k : ℕ} → Wrote room 0 bytes k m → filled_as (record { answer = 0; filled = n }) m ≡ filled_with n bytes room
   unfolding filled_with

@@ -2,6 +2,8 @@
 -- returned, room past it is not touched, and a refusal returns zero counts and leaves the whole room untouched"; document 02, T-01: "the
 -- amount filled counts entries for a list, stations for a table and bytes for CSV").
 use Rattle.std.specs.Prelude.{ℕ, cond, List, ◌++◌, eqb, leb, length, drop}
+use Rattle.line.specs.declared.Fault.{Fault}
+use Rattle.line.specs.Answer.{fault_number}
 use Rattle.filling.specs.declared.Filled.{Filled}
 
 -- the number, the amount filled, and every byte or record of the room afterwards
@@ -21,6 +23,10 @@ filled_with n parts room = cond (leb (length parts) (length room)) (record { ans
 -- what comes before that: a fault refuses
 abbrev pub unless_fault : {A : Type 0} → ℕ → Filling A → List A → Filling A
 unless_fault fault f room = cond (eqb fault 0) f (refused_with fault room)
+
+-- the code's answer where it refuses: "a refusal returns zero counts"
+abbrev pub refused : Fault → Filled
+refused fault = record { answer = fault_number fault; filled = 0 }
 
 -- what the code's answer says, with the room that it leaves
 abbrev pub filled_as : {A : Type 0} → Filled → List A → Filling A

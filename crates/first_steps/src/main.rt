@@ -7,58 +7,32 @@
 ghost use Rattle.std.specs.Prelude.{◌≡◌, ◌+◌, ◌≤◌, length, IfOk};
 
 use allowed::allowed;
-use cases::{fill, print_place, print_rest, read_full, read_part};
+use cases::{fill, print_place, print_rest, read_lengths, read_part};
+use octets::{quad_at, word_at};
 use std::fs::File;
 use std::io;
 use std::io::Read;
-
-#[derive(Clone, Copy)]
-struct Head {
-    table: usize,
-    room: usize,
-}
-
-// The lengths of the next case; a table longer than any where there is none.
-fn next_head(file: &mut impl Read) -> io::Result<Head> {
-    let mut head = [0u8; 8];
-    if read_full(file, &mut head)? != 8 {
-        return Ok(Head {
-            table: 65536,
-            room: 0,
-        });
-    }
-    Ok(Head {
-        table: octets::quad_at(&head, 0) as usize,
-        room: octets::quad_at(&head, 4) as usize,
-    })
-}
-
-// A number, and what stands behind it.
-fn print_number(rt: &impl Print, n: u32, behind: &str) -> io::Result<()> {
-    print!(rt; "{n}{behind}")
-}
 
 // The line with the answer and the amount filled.
 fn print_answer(rt: &impl Print, answer: u32, filled: u32) -> io::Result<()> {
     println!(rt; "answer {answer} filled {filled}")
 }
 
-// The line of the step that stands at a place of the list.
-fn print_step(rt: &impl Print, list: &[u8], at: usize) -> io::Result<()>
-    requires { at + 12 ≤ length list.now }
+// The line of a step.
+fn print_step(rt: &impl Print, step: &[u8]) -> io::Result<()>
+    requires { 12 ≤ length step.now }
 {
-    print_number(rt, octets::word_at(list, at) as u32, " ")?;
-    print_number(rt, octets::word_at(list, at + 2) as u32, " ")?;
-    print_number(rt, octets::quad_at(list, at + 4), " ")?;
-    print_number(rt, octets::quad_at(list, at + 8), "\n")
+    let action = word_at(step, 0);
+    let kind = word_at(step, 2);
+    let station = quad_at(step, 4);
+    let number = quad_at(step, 8);
+    println!(rt; "{action} {kind} {station} {number}")
 }
 
 // The lines of all steps.
 fn print_steps(rt: &impl Print, list: &[u8]) -> io::Result<()> {
-    let mut at = 0;
-    while 12 <= list.len() - at {
-        print_step(rt, list, at)?;
-        at += 12;
+    for step in list.chunks_exact(12) {
+        print_step(rt, step)?;
     }
     Ok(())
 }
@@ -92,16 +66,19 @@ fn next_case(
     room: &mut [u8],
     place: u64,
 ) -> io::Result<bool> {
-    let head = next_head(file)?;
-    if room.len() < head.room {
+    let Some(lengths) = read_lengths::<2>(file)? else {
+        return Ok(false);
+    };
+    let [table_length, room_length] = lengths;
+    if room.len() < room_length {
         return Ok(false);
     }
-    let n = read_part(file, table, head.table)?;
-    if n != head.table {
+    let n = read_part(file, table, table_length)?;
+    if n != table_length {
         return Ok(false);
     }
     print_place(rt, place)?;
-    print_case(rt, &table[..n], room, head.room)?;
+    print_case(rt, &table[..n], room, room_length)?;
     Ok(true)
 }
 

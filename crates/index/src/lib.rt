@@ -13,14 +13,7 @@ ghost use Rattle.index.specs.Index.{numbers_in};
 pub fn rises(index: &[u64]) -> bool
     ensures { result ≡ numbers.rises (numbers_in index.now) }
 {
-    let mut i = 0;
-    while i + 1 < index.len() {
-        if index[i + 1] / 64 <= index[i] / 64 {
-            return false;
-        }
-        i += 1;
-    }
-    true
+    index.is_sorted_by(|entry, next| entry / 64 < next / 64)
 }
 
 // Where station q stands; the length where it does not. The entry at the lowest place left is kept beside it: the two are then chosen
@@ -39,6 +32,7 @@ pub fn lookup(index: &[u64], q: u32) -> usize
     let mut low = 0;
     let mut lowest = index[0];
     let mut size = n;
+    // The places left are halved at each turn: no index is counted here.
     while 1 < size {
         let half = size / 2;
         let middle = low + half;
@@ -57,13 +51,7 @@ fn beside(i: usize, below: bool) -> usize
     requires { i < 18446744073709551615 }
     ensures { result ≤ i + 1 }
 {
-    if below {
-        if i == 0 {
-            return 0;
-        }
-        return i - 1;
-    }
-    i + 1
+    if below { i.saturating_sub(1) } else { i + 1 }
 }
 
 // The same for a station that knows q: the place beside its own, on the side where q lies, is looked at first, since neighbours mostly stand
@@ -74,10 +62,8 @@ pub fn lookup_near(index: &[u64], q: u32, i: usize) -> usize
 {
     let number = q as u64;
     let near = beside(i, number < index[i] / 64);
-    if near < index.len() {
-        if index[near] / 64 == number {
-            return near;
-        }
+    if near < index.len() && index[near] / 64 == number {
+        return near;
     }
     lookup(index, q)
 }
@@ -91,19 +77,12 @@ pub fn is_listed(index: &[u64], q: u32) -> bool
 }
 
 // Without entry i of the first n: what stood after it goes one place down.
-pub fn drop_entry(index: [u64; 64], n: usize, i: usize) -> [u64; 64]
+pub fn drop_entry(mut index: [u64; 64], n: usize, i: usize) -> [u64; 64]
     requires { (i < n) × (n ≤ 64) }
     ensures { take (n - 1) result ≡ remove_at i (take n index) }
 {
-    let mut kept = index;
-    let last = n - 1;
-    let mut j = i;
-    while j < last {
-        let next = kept[j + 1];
-        kept[j] = next;
-        j += 1;
-    }
-    kept
+    index[i..n].rotate_left(1);
+    index
 }
 
 // The entry of a station number and a slot.

@@ -1,7 +1,7 @@
 -- What a step keeps of its own station and of each that receives, it keeps of every node of the line.
 use Prim.Native.Nat.{ℕ}
+use Rattle.std.specs.Prelude.{Option, Some, None}
 use mathlib.Core.Path.{◌≡◌, refl}
-use mathlib.Core.Option.{Option, none, some}
 use mathlib.Core.List.{List, [], ◌∷◌, map}
 use mathlib.Core.List.Memᴰ.{head as here}
 use mathlib.Core.List.Memᴰ.{tail as there}
@@ -17,8 +17,8 @@ module _ (Q : Node → Type 0) where
 
   -- of the node that a step leaves, where it leaves one
   abbrev pub IfThere : Option Node → Type 0
-  IfThere none = Unit {0}
-  IfThere (some u) = Q u
+  IfThere None = Unit {0}
+  IfThere (Some u) = Q u
 
   -- of its own node, and of each node that receives
   pub record KeptIn (e : Effect) : Type 0 where
@@ -35,8 +35,8 @@ module _ (Q : Node → Type 0) where
 
   replaced_everywhere : (n : ℕ) (o : Option Node) (line : Line) → IfThere o → Everywhere line → Everywhere (replace n o line)
   unfolding replace
-  replaced_everywhere n none line own f = λ t m. f t (without_mem n line m).0
-  replaced_everywhere n (some u) line own f = changed_all n (λ (t : Node). u) Q line f (λ t m e. own)
+  replaced_everywhere n None line own f = λ t m. f t (without_mem n line m).0
+  replaced_everywhere n (Some u) line own f = changed_all n (λ (t : Node). u) Q line f (λ t m e. own)
 
   pub kept_everywhere : (line : Line) (n : ℕ) (e : Effect) → KeptIn e → Everywhere line → Everywhere (send_all e.sends (replace n e.after line))
   kept_everywhere line n e k f = sent_everywhere e.sends k.receivers (replace n e.after line) (replaced_everywhere n e.after line k.own f)

@@ -1,14 +1,13 @@
 -- Steps elsewhere: a station for which NIDEC holds is linked to by nobody else, and a station that is not linked to it neither sends to it nor
 -- introduces it to anybody; so NIDEC still holds after a step at another station.
 use Prim.Native.Nat.{ℕ}
+use Rattle.std.specs.Prelude.{Option, Some, None, Ok}
 use mathlib.Core.Path.{◌≡◌, sym, ◌∙◌, subst}
 use mathlib.Core.Logic.{◌≢◌, ⊎_elim}
-use mathlib.Core.Option.{Option, none, some}
 use mathlib.Core.List.Memᴰ
 use mathlib.Core.List.{List, []}
 use mathlib.Core.List.{Memᴰ as Member}
 use Rattle.lists.proofs.Lists.{mem-map}
-use Rattle.line.specs.declared.Leave.TheVariants.{May}
 use Rattle.line.specs.declared.Step as declared
 use Rattle.line.specs.Answer.{done}
 use Rattle.line.specs.Node.{Node, Line, number, Present}
@@ -71,8 +70,8 @@ module _ (n : ℕ) (line : Line) (s : Node) (other : number s ≢ n) (unlinked :
 
   -- it keeps every node free of n
   keeps_free : (o : Option Node) (l : List Send) → LinksKept line (number s) (Linked s) o l → KeptIn (Free n) (record { after = o; sends = l })
-  keeps_free none l k = record { own = tt; receivers = fair_free n l k.fair unlinked unlinked }
-  keeps_free (some v) l k = record {
+  keeps_free None l k = record { own = tt; receivers = fair_free n l k.fair unlinked unlinked }
+  keeps_free (Some v) l k = record {
     own = record { empty = λ z. absurd (other (sym k.named ∙ z)); unnamed = λ h i. unlinked (k.fewer n i) };
     receivers = fair_free n l k.fair unlinked not_self;
   }
@@ -80,9 +79,9 @@ module _ (n : ℕ) (line : Line) (s : Node) (other : number s ≢ n) (unlinked :
   -- and n present
   keeps_present : (o : Option Node) (l : List Send) → LinksKept line (number s) (Linked s) o l → Present line n → Present (send_all l (replace (number s) o line)) n
   unfolding replace
-  keeps_present none l k p = rw (send_numbers l (replace (number s) none line)) (present_without (number s) line p (λ z. other (sym z)))
-  keeps_present (some v) l k p =
-      rw (send_numbers l (replace (number s) (some v) line), changed_numbers (number s) (λ (t : Node). v) (λ t e. k.named) line) p
+  keeps_present None l k p = rw (send_numbers l (replace (number s) None line)) (present_without (number s) line p (λ z. other (sym z)))
+  keeps_present (Some v) l k p =
+      rw (send_numbers l (replace (number s) (Some v) line), changed_numbers (number s) (λ (t : Node). v) (λ t e. k.named) line) p
 
 pub step_elsewhere : (n : ℕ) (line : Line) (x : declared.Step) {after : Line} → Accepted line → NidecAt n line → x.station ≢ n → step line x ≡ done after → NidecAt n after
 step_elsewhere n line x ok b h e =
@@ -94,7 +93,7 @@ step_elsewhere n line x ok b h e =
     let unlinked = (free s f.0).unnamed other in
     let o = v.effect.after in
     let l = v.effect.sends in
-    let kept = act_links line s (ok.sided s f.0) (ok.small s f.0) (leave_of line s) (leave_tested line s May).0 x.action v.acts in
+    let kept = act_links line s (ok.sided s f.0) (ok.small s f.0) (leave_of line s) (leave_tested line s (Ok tt)).0 x.action v.acts in
     let here : Present line n = Memᴰ.cast (sym b.named) (mem-map number b.member) in
     subst (NidecAt n) v.result
     (free_nidec n (send_all l (replace (number s) o line)) (keeps_present n line s other unlinked o l kept here)

@@ -1,10 +1,11 @@
 -- Steps in a line in line: each that is done leaves its station as it is and sends introductions alone, so the line is in line again. A
 -- station that is introduced to another already has the nearest neighbours; there is no removal to deliver and nobody to exit.
 use Prim.Native.Nat.{ℕ}
+use Rattle.std.specs.Prelude.{Some, None}
+use Rattle.line.specs.Types.{Leave, Neighbour}
 use mathlib.Core.Path.{◌≡◌, refl, sym, ap, ◌∙◌, subst}
 use mathlib.Core.Logic.{◌≢◌, ⊎_elim}
 use mathlib.Core.Bool.{Bool, true, false, cond}
-use mathlib.Core.Option.{some}
 use mathlib.Core.List.Memᴰ
 use mathlib.Core.List.{List, map}
 use mathlib.Core.List.{Memᴰ as Member}
@@ -12,8 +13,6 @@ use native.Mathlib.Omega.{arith}
 use lib.Dec.{eqb}
 use borrow.Author.Tests.{eqb-false}
 use Rattle.lists.proofs.Lists.{clash}
-use Rattle.line.specs.declared.Neighbour.{Neighbour}
-use Rattle.line.specs.declared.Neighbour.TheVariants.{None, Station}
 use Rattle.line.specs.declared.Content.{Content}
 use Rattle.line.specs.declared.Content.TheVariants.{Introduction, RemoveLeft, RemoveRight}
 use Rattle.line.specs.declared.Message.{Message}
@@ -23,7 +22,6 @@ use Rattle.line.specs.declared.Side.TheVariants.{Left, Right}
 use Rattle.line.specs.declared.Action.{Action}
 use Rattle.line.specs.declared.Action.TheVariants.{Timeout, Deliver, Exit}
 use Rattle.line.specs.declared.Step as steps
-use Rattle.line.specs.declared.Leave.{Leave}
 use Rattle.line.specs.declared.Refusal.TheVariants.{NotInBag, Staying}
 use Rattle.line.specs.Answer.{done}
 use Rattle.line.specs.Message.{introduction, removal, holds, remove}
@@ -54,7 +52,7 @@ Introduces l = (m : Send) → Member m l → (n : ℕ) × (m.message ≡ introdu
 -- A step at s that leaves its station as it is, puts no removal into its bag and sends introductions alone.
 record Keeps (s : Node) (e : Effect) : Type 0 where
   node : Node
-  after : e.after ≡ some node
+  after : e.after ≡ Some node
   station : node.station ≡ s.station
   removals : (d : Side) → Member (removal d) node.bag → Member (removal d) s.bag
   introduces : Introduces e.sends
@@ -126,10 +124,10 @@ module _ (line : Line) (p : declared.Station) (q : ℕ) (present : Present line 
   passes_met : (d : Side) (k : Neighbour) → IsNext line d p.number k → Beyond d p.number q → Passes p (meet d p q k)
   unfolding meet
   passes_met d None n h = absurd (n q present h)
-  passes_met d (Station r) n h = go (beyond d q r) (eqb q r) refl
+  passes_met d (Some r) n h = go (beyond d q r) (eqb q r) refl
     where
       go : (t u : Bool) → beyond d q r ≡ t
-          → Passes p (cond t (record { station = with_neighbour d (Station q) p; sends = send q (introduction r) }) (cond u (unchanged p) (record { station = p; sends = send r (introduction q) })))
+          → Passes p (cond t (record { station = with_neighbour d (Some q) p; sends = send q (introduction r) }) (cond u (unchanged p) (record { station = p; sends = send r (introduction q) })))
       go true u z = absurd (n.nearest q present h (beyond_true d q r z))
       go false true z = no_more
       go false false z = passed_on r
@@ -152,7 +150,7 @@ module _ (line : Line) (ok : Accepted line) (lined : InLine line) (s : Node) (me
   sent_on : (d : Side) {m : Send} → Member m (send_to (neighbour d s.station) (notice s.station d)) → (n : ℕ) × (m.message ≡ introduction n)
   sent_on d k = (number s, sent_message (neighbour d s.station) (notice s.station d) k ∙ introduces_itself d)
 
-  timed_out : Keeps s (record { after = some s; sends = timeout s.station })
+  timed_out : Keeps s (record { after = Some s; sends = timeout s.station })
   unfolding timeout
   timed_out = record {
     node = s;

@@ -1,6 +1,5 @@
 -- Worked examples of In line (document 02, T-04): lines in line, and lines that are not for one cause alone.
-use Rattle.std.specs.Prelude.{◌≡◌, Bool, true, false, ◌&&◌, List, [], ◌∷◌}
-use Rattle.line.specs.declared.Neighbour.TheVariants.{None, Station}
+use Rattle.std.specs.Prelude.{◌≡◌, Bool, true, false, ◌&&◌, List, [], ◌∷◌, Some, None}
 use Rattle.line.specs.declared.Side.TheVariants.{Left, Right}
 use Rattle.line.specs.Message.{introduction, removal}
 use Rattle.line.specs.Node.{Line}
@@ -36,9 +35,9 @@ pub record ShowsInLine (x : InLineExample) : Type 0 where
 abbrev pub introductions_wait : InLineExample
 introductions_wait = record {
   line =
-      staying 3 None (Station 5) (introduction 5 ∷ introduction 9 ∷ []) ∷
-      staying 5 (Station 3) (Station 9) (introduction 5 ∷ []) ∷
-      staying 9 (Station 5) None (introduction 3 ∷ introduction 3 ∷ []) ∷ [];
+      staying 3 None (Some 5) (introduction 5 ∷ introduction 9 ∷ []) ∷
+      staying 5 (Some 3) (Some 9) (introduction 5 ∷ []) ∷
+      staying 9 (Some 5) None (introduction 3 ∷ introduction 3 ∷ []) ∷ [];
   neighbours = true;
   quiet = true;
   staying = true;
@@ -51,19 +50,19 @@ in_line_examples =
     introductions_wait ∷
     -- the neighbours alone: a left missing, a right missing, a station that its neighbours pass over
     record {
-      line = staying 3 None (Station 5) [] ∷ staying 5 None (Station 9) [] ∷ staying 9 (Station 5) None [] ∷ [];
+      line = staying 3 None (Some 5) [] ∷ staying 5 None (Some 9) [] ∷ staying 9 (Some 5) None [] ∷ [];
       neighbours = false;
       quiet = true;
       staying = true;
     } ∷
     record {
-      line = staying 3 None (Station 5) [] ∷ staying 5 (Station 3) None [] ∷ staying 9 (Station 5) None [] ∷ [];
+      line = staying 3 None (Some 5) [] ∷ staying 5 (Some 3) None [] ∷ staying 9 (Some 5) None [] ∷ [];
       neighbours = false;
       quiet = true;
       staying = true;
     } ∷
     record {
-      line = staying 3 None (Station 9) [] ∷ staying 5 (Station 3) (Station 9) [] ∷ staying 9 (Station 3) None [] ∷ [];
+      line = staying 3 None (Some 9) [] ∷ staying 5 (Some 3) (Some 9) [] ∷ staying 9 (Some 3) None [] ∷ [];
       neighbours = false;
       quiet = true;
       staying = true;
@@ -71,9 +70,9 @@ in_line_examples =
     -- a removal alone: a remove-left behind two introductions, a remove-right where there is no right to remove
     record {
       line =
-          staying 3 None (Station 5) [] ∷
-          staying 5 (Station 3) (Station 9) (introduction 3 ∷ introduction 9 ∷ removal Left ∷ []) ∷
-          staying 9 (Station 5) None [] ∷ [];
+          staying 3 None (Some 5) [] ∷
+          staying 5 (Some 3) (Some 9) (introduction 3 ∷ introduction 9 ∷ removal Left ∷ []) ∷
+          staying 9 (Some 5) None [] ∷ [];
       neighbours = true;
       quiet = false;
       staying = true;
@@ -81,7 +80,7 @@ in_line_examples =
     record { line = single 5 (removal Right ∷ []) ∷ []; neighbours = true; quiet = false; staying = true } ∷
     -- a leaving station alone, among others and by itself
     record {
-      line = staying 3 None (Station 5) [] ∷ staying 5 (Station 3) (Station 9) [] ∷ leaving 9 (Station 5) None [] ∷ [];
+      line = staying 3 None (Some 5) [] ∷ staying 5 (Some 3) (Some 9) [] ∷ leaving 9 (Some 5) None [] ∷ [];
       neighbours = true;
       quiet = true;
       staying = false;

@@ -1,5 +1,7 @@
 -- Whether a station may leave: its own block counts its messages, and the first who holds it is sought; the station is looked up in the index.
 use Prim.Native.Nat.{ℕ, ◌≤◌, ◌<◌}
+use Rattle.std.specs.Prelude.{Ok, Err}
+use Rattle.line.specs.Types.{Leave}
 use mathlib.Core.Path.{◌≡◌, refl, sym, ap, ◌∙◌}
 use mathlib.Core.List.{List}
 use native.Mathlib.Omega.{arith}
@@ -8,8 +10,6 @@ use lib.ListN.{length, get_or, length-map, get_or-map}
 use Rattle.lists.specs.Places.{first_at}
 use Rattle.lists.proofs.Numbers.{found_member, found_there}
 use Rattle.line.specs.declared.Reason.TheVariants.{OwnBag}
-use Rattle.line.specs.declared.Leave.{Leave}
-use Rattle.line.specs.declared.Leave.TheVariants.{MayNot}
 use Rattle.line.specs.Node.{number, numbers, nobody, with_bag_in_order}
 use Rattle.line.specs.Leave.{is_holder, leave_of}
 use Rattle.line.specs.Step.{find}
@@ -25,7 +25,6 @@ use Rattle.table.proofs.Accepting.{table_accepted}
 use Rattle.table.proofs.Lines.{ordered_count, line_long, numbers_listed, line_at}
 use Rattle.moves.specs.Holders.{leave_from}
 use Rattle.moves.proofs.Holding.{leave_counted_lem, entry_ranged, from_bag}
-use Rattle.leave.specs.declared.LeaveTold.TheVariants.{Refused, Told}
 use Rattle.leave.specs.Leave.{leave_at}
 
 module _ (t index : List ℕ) (clean : fault_of t ≡ 0) (listed : index ≡ index_of t) where
@@ -42,7 +41,7 @@ module _ (t index : List ℕ) (clean : fault_of t ≡ 0) (listed : index ≡ ind
         rw (numbers_listed t index clean listed) (leave_counted_lem (line_of t) (place (line_of t) i) (table_accepted t clean).2.rising c j (sym own) first)
 
     -- its bag is not empty, whoever holds it
-    pub leave_unread : (c ≡ 0 → ⊥) → MayNot OwnBag ≡ leave_of (line_of t) (place (line_of t) i)
+    pub leave_unread : (c ≡ 0 → ⊥) → Err OwnBag ≡ leave_of (line_of t) (place (line_of t) i)
     leave_unread z = let j = first_at (is_holder (number (place (line_of t) i))) (line_of t) in from_bag index c j z ∙ told j refl
 
     pub leave_told : {q j : ℕ} {l : Leave} → q ≡ number (node_of (block_at t (slot_in (get_or index i 0)))) → j ≡ first_at (is_holder q) (line_of t) → l ≡ leave_from (numbers_in index) c j
@@ -57,11 +56,11 @@ module _ (t index : List ℕ) (clean : fault_of t ≡ 0) (listed : index ≡ ind
     among = at ∙ ap (first_at (eqb q)) (numbers_listed t index clean listed)
 
     -- it stands nowhere
-    pub leave_absent : length index ≤ i → Refused 11 ≡ leave_at (line_of t) (find q (line_of t))
+    pub leave_absent : length index ≤ i → Err 11 ≡ leave_at (line_of t) (find q (line_of t))
     leave_absent h = rw (find_nowhere q (line_of t) (λ m. omega (arith, (found_member (numbers (line_of t)) q).1 m, length-map (line_of t) number, among, line_long t index clean listed, h)))
 
     -- it stands at place i
-    pub leave_there : i < length index → {l : Leave} → l ≡ leave_of (line_of t) (place (line_of t) i) → Told l ≡ leave_at (line_of t) (find q (line_of t))
+    pub leave_there : i < length index → {l : Leave} → l ≡ leave_of (line_of t) (place (line_of t) i) → Ok l ≡ leave_at (line_of t) (find q (line_of t))
     leave_there h e =
         let l = length-map (line_of t) number in
         let named : number (place (line_of t) i) ≡ q = sym (get_or-map number (line_of t) i nobody) ∙ rw among (found_there (numbers (line_of t)) q (omega (arith, among, line_long t index clean listed))) in

@@ -1,6 +1,8 @@
 -- The question is asked of the line in written order, and answers what the paper says of the blocks in stored order, because NIDEC and what
 -- holds a station are the same of alike lines (document 02, T-02).
 use Prim.Native.Nat.{ℕ}
+use Rattle.std.specs.Prelude.{Ok, Err}
+use Rattle.line.specs.Types.{Leave}
 use mathlib.Core.Path.{◌≡◌, refl, sym, ap, ◌∙◌, subst}
 use mathlib.Core.List.Memᴰ
 use mathlib.Core.List.{List, [], ◌∷◌}
@@ -9,8 +11,6 @@ use mathlib.Core.List.{Memᴰ as Member}
 use Rattle.lists.proofs.Lists.{mem-map}
 use Rattle.line.specs.declared.Message.{Message}
 use Rattle.line.specs.declared.Reason.TheVariants.{OwnBag, HeldBy}
-use Rattle.line.specs.declared.Leave.{Leave}
-use Rattle.line.specs.declared.Leave.TheVariants.{May, MayNot}
 use Rattle.line.specs.Answer.{done}
 use Rattle.line.specs.Node.{Node, Line, number}
 use Rattle.line.specs.Links.{Linked, by_neighbour, by_introduction, Link, link}
@@ -23,8 +23,7 @@ use Rattle.line.proofs.LeaveTest.{leave_tested}
 use Rattle.table.specs.Blocks.{nodes, line_of}
 use Rattle.table.specs.Fault.{fault_of}
 use Rattle.questions.proofs.Meanings.{nodes_back, alike_back, same_neighbour, same_messages, partner, reading_alike, answered}
-use Rattle.leave.specs.declared.LeaveTold.TheVariants.{Refused, Told}
-use Rattle.leave.specs.Leave.{leave_at, may_leave}
+use Rattle.leave.specs.Leave.{leave_at, may_leave, LeaveTold}
 use Rattle.leave.specs.Claims.{MayLeaveMeans}
 
 -- a bag without messages is empty
@@ -68,16 +67,16 @@ holder_alike a b h w = record {
 
 -- so what is said of a station's leaving is the same
 leave_alike : (a b : Line) → Alike a b → {s t : Node} → Member s a → Member t b → number s ≡ number t → (l : Leave) → LeaveIs a s l → LeaveIs b t l
-leave_alike a b h m k e May w = nidec_alike a b h m k e w
-leave_alike a b h {s} {t} m k e (MayNot OwnBag) w = λ z. w (same_empty (nodes_back (h.nodes s t m k e)) z)
-leave_alike a b h {s} {t} m k e (MayNot (HeldBy q)) w = (same_empty (h.nodes s t m k e) w.0, rw (← e) (holder_alike a b h w.1))
+leave_alike a b h m k e (Ok _) w = nidec_alike a b h m k e w
+leave_alike a b h {s} {t} m k e (Err OwnBag) w = λ z. w (same_empty (nodes_back (h.nodes s t m k e)) z)
+leave_alike a b h {s} {t} m k e (Err (HeldBy q)) w = (same_empty (h.nodes s t m k e) w.0, rw (← e) (holder_alike a b h w.1))
 
 -- a station with a block is found, and asked whether it may leave
-leave_answered : (t : List ℕ) (n : ℕ) {s : Node} → fault_of t ≡ 0 → find n (line_of t) ≡ done s → may_leave t n ≡ Told (leave_of (line_of t) s)
+leave_answered : (t : List ℕ) (n : ℕ) {s : Node} → fault_of t ≡ 0 → find n (line_of t) ≡ done s → may_leave t n ≡ Ok (leave_of (line_of t) s)
 unfolding may_leave
-leave_answered t n h e = answered t Refused (leave_at (line_of t) (find n (line_of t))) h ∙ ap (leave_at (line_of t)) e
+leave_answered t n h e = answered t Err (leave_at (line_of t) (find n (line_of t))) h ∙ ap (leave_at (line_of t)) e
 
-told_once : {l k : Leave} → Told l ≡ Told k → l ≡ k
+told_once : {l k : Leave} → ◌≡◌ {A = LeaveTold} (Ok l) (Ok k) → l ≡ k
 told_once e = cc
 
 -- the question looks for the station and tests the written order, and what is said is that of the stored order
@@ -89,5 +88,5 @@ may_leave_means t s l h m =
     let tested = leave_tested (line_of t) w.0 l in
     rw (leave_answered t (number s) h w.1) (
       λ e. leave_alike (line_of t) (nodes t) (alike_back a) f.0 m f.1 l (tested.0 (told_once e)),
-      λ n. ap Told (tested.1 (leave_alike (nodes t) (line_of t) a m f.0 (sym f.1) l n)),
+      λ n. ap Ok (tested.1 (leave_alike (nodes t) (line_of t) a m f.0 (sym f.1) l n)),
     )

@@ -10,23 +10,20 @@ ghost use Rattle.table.specs.Fault.{fault_of};
 ghost use Rattle.table.specs.Index.{index_of};
 ghost use Rattle.line.specs.Leave.{is_holder};
 
-use block::places::place_at;
+use block::messages::any_message;
 use block::station_of;
-use fields::message_of;
 use line::{Content, Message};
 use moves::holders::is_neighbour;
-use octets::word_at;
 use table::block_at;
 
 // Whether a message is an introduction of p.
+#[tactic(auto, unfolding(line::specs::Message::same))]
 fn is_introduction(p: u32, message: Message) -> bool
     ensures { result ≡ same (introduction p) message }
 {
-    let content = message.content;
-    match content {
+    match message.content {
         Content::Introduction(q) => p == q,
-        Content::RemoveLeft => false,
-        Content::RemoveRight => false,
+        Content::RemoveLeft | Content::RemoveRight => false,
     }
 }
 
@@ -35,35 +32,18 @@ fn introduces(b: &[u8], p: u32) -> bool
     requires { (length b.now ≡ 512) × (word b.now 16 ≤ 32) }
     ensures { result ≡ holds (introduction p) (messages b.now (word b.now 16)) }
 {
-    let n = word_at(b, 16) as usize;
-    let mut i = 0;
-    while i < n {
-        if is_introduction(p, message_of(place_at(b, i))) {
-            return true;
-        }
-        i += 1;
-    }
-    false
+    any_message(b, |message| is_introduction(p, message))
 }
 
 // Whether the station of a block holds p: it is another station, and has p as a neighbour or as an introduction.
+#[tactic(auto, unfolding(line::specs::Nidec::names, block::specs::Layout::node_of))]
 fn is_holder(b: &[u8], p: u32) -> bool
     requires { (length b.now ≡ 512) × (word b.now 16 ≤ 32) }
     ensures { result ≡ is_holder p (node_of b.now) }
 {
     let station = station_of(b);
-    if station.number == p {
-        return false;
-    }
-    let left = station.left;
-    if is_neighbour(p, left) {
-        return true;
-    }
-    let right = station.right;
-    if is_neighbour(p, right) {
-        return true;
-    }
-    introduces(b, p)
+    station.number != p
+        && (is_neighbour(p, station.left) || is_neighbour(p, station.right) || introduces(b, p))
 }
 
 // Where in the index the first station that holds p stands, which is the one of the smallest number; the length where nobody holds p.
@@ -72,13 +52,11 @@ pub fn first_holder(table: &[u8], index: &[u64], p: u32) -> usize
     requires index_value { index.now ≡ index_of table.now }
     ensures { result ≡ first_at (is_holder p) (line_of table.now) }
 {
-    let mut j = 0;
-    while j < index.len() {
-        let k = (index[j] % 64) as usize;
+    for (j, entry) in index.iter().enumerate() {
+        let k = (*entry % 64) as usize;
         if is_holder(block_at(table, k), p) {
             return j;
         }
-        j += 1;
     }
-    j
+    index.len()
 }

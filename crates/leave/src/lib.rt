@@ -6,6 +6,7 @@ pub mod holders;
 pub mod records;
 
 ghost use Rattle.std.specs.Prelude.{◌≡◌, ◌<◌, length, get_or};
+ghost use Rattle.line.specs.Answer.{refusal_number, refused_number, numbered};
 ghost use Rattle.line.specs.Node.{nobody};
 ghost use Rattle.line.specs.Leave.{leave_of};
 ghost use Rattle.line.specs.Step.{find};
@@ -16,17 +17,10 @@ ghost use Rattle.leave.specs.Leave.{leave_at, may_leave};
 
 use holders::first_holder;
 use index::lookup;
-use line::{Leave, Reason};
+use line::{Leave, Reason, Refusal, Refused};
 use moves::holders::leave_from;
 use octets::word_at;
 use table::{block_at, inspect, number_at};
-
-// What the question returns: the number of a refusal, or at 0 whether the station may leave, and what holds it.
-#[derive(Clone, Copy)]
-pub enum LeaveTold {
-    Refused(u32),
-    Told(Leave),
-}
 
 // Of an accepted table and its index: whether the station at place i may leave. "The bag is looked at first"; then who holds it is sought by
 // rising station number.
@@ -37,33 +31,29 @@ pub fn leave_at(table: &[u8], index: &[u64], i: usize) -> Leave
     let own = (index[i] % 64) as usize;
     let count = word_at(block_at(table, own), 16) as usize;
     if count != 0 {
-        return Leave::MayNot(Reason::OwnBag);
+        return Err(Reason::OwnBag);
     }
     let j = first_holder(table, index, number_at(table, own));
     leave_from(index, count, j)
 }
 
 // "the leave question then looks for the station (11)", "leaving mark or not".
-fn leave_of(table: &[u8], index: &[u64], station: u32) -> LeaveTold
+fn leave_of(table: &[u8], index: &[u64], station: u32) -> Result<Leave, Refusal>
     requires { (fault_of table.now ≡ 0) × (index.now ≡ index_of table.now) }
-    ensures { result ≡ leave_at (line_of table.now) (find station (line_of table.now)) }
+    ensures { numbered refusal_number result ≡ leave_at (line_of table.now) (find station (line_of table.now)) }
 {
     let i = lookup(index, station);
     if index.len() <= i {
-        return LeaveTold::Refused(11);
+        return Err(Refusal::Absent);
     }
-    LeaveTold::Told(leave_at(table, index, i))
+    Ok(leave_at(table, index, i))
 }
 
 // Whether a station may leave, and what holds it.
-pub fn may_leave(table: &[u8], station: u32) -> LeaveTold
-    ensures { result ≡ may_leave table.now station }
+pub fn may_leave(table: &[u8], station: u32) -> Result<Leave, Refused>
+    ensures { numbered refused_number result ≡ may_leave table.now station }
 {
-    let inspected = inspect(table);
-    if inspected.fault != 0 {
-        return LeaveTold::Refused(inspected.fault);
-    }
-    let index = inspected.index;
+    let index = inspect(table)?;
     let n = table.len() / 512;
-    leave_of(table, &index[..n], station)
+    Ok(leave_of(table, &index[..n], station)?)
 }

@@ -1,9 +1,9 @@
 // The answer of the leave question as a record of numbers: so it is handed over in C, alone or in a list (document 02, T-02 and T-03).
 ghost use Rattle.std.specs.Prelude.{◌≡◌};
+ghost use Rattle.line.specs.Answer.{refused_number, numbered};
 ghost use Rattle.leave.specs.Leave.{leave_as};
 
-use crate::LeaveTold;
-use line::Leave;
+use line::{Leave, Refused};
 
 // The number of the leave question, and at 0 whether the station may leave: 1 yes, 2 its own bag, 3 the station `holder`; beside any other
 // number both are 0.
@@ -16,26 +16,25 @@ pub struct LeaveRecord {
 }
 
 // The number, the reason and the holder of an answer.
-pub fn leave_as(told: LeaveTold) -> LeaveRecord
-    ensures { result ≡ leave_as told }
+#[tactic(auto, unfolding(crate::specs::Leave::leave_as))]
+pub fn leave_as(told: Result<Leave, Refused>) -> LeaveRecord
+    ensures { result ≡ leave_as (numbered refused_number told) }
 {
     match told {
-        LeaveTold::Refused(number) => LeaveRecord {
-            answer: number,
+        Err(refused) => LeaveRecord {
+            answer: refused.number(),
             reason: 0,
             holder: 0,
         },
-        LeaveTold::Told(leave) => match leave {
-            Leave::May => LeaveRecord {
-                answer: 0,
-                reason: 1,
-                holder: 0,
-            },
-            Leave::MayNot(why) => LeaveRecord {
-                answer: 0,
-                reason: why.number(),
-                holder: why.holder(),
-            },
+        Ok(Ok(())) => LeaveRecord {
+            answer: 0,
+            reason: 1,
+            holder: 0,
+        },
+        Ok(Err(why)) => LeaveRecord {
+            answer: 0,
+            reason: why.number(),
+            holder: why.holder(),
         },
     }
 }

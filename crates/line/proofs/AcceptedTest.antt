@@ -1,5 +1,7 @@
 -- The test `accepted` says what Accepted says.
 use mathlib.Core.Path.{◌≡◌, refl, sym, ◌∙◌, ap}
+use Rattle.std.specs.Prelude.{Some, None}
+use Rattle.line.specs.Types.{Neighbour}
 use mathlib.Core.Logic.{◌↔◌}
 use mathlib.Core.Bool.{Bool, true, ◌&&◌}
 use mathlib.Core.List.Memᴰ
@@ -10,8 +12,6 @@ use lib.Dec.{eqb, leb}
 use borrow.Author.Tests.{leb-true, le-leb, eqb-true, eq-eqb}
 use lib.ListN.{length}
 use Rattle.lists.proofs.Distinct.{are_distinct_lem}
-use Rattle.line.specs.declared.Neighbour.{Neighbour}
-use Rattle.line.specs.declared.Neighbour.TheVariants.{None, Station}
 use Rattle.line.specs.declared.Content.{Content}
 use Rattle.line.specs.declared.Content.TheVariants.{Introduction, RemoveLeft, RemoveRight}
 use Rattle.line.specs.declared.Message.{Message}
@@ -41,16 +41,16 @@ unfolding has_small_bag
 small_bag s = (leb-true (length s.bag) capacity, le-leb (length s.bag) capacity)
 
 -- a neighbour on its side
-lies_beyond_lem : (d : Side) (p : ℕ) (k : Neighbour) → (lies_beyond d p k ≡ true) ↔ ((q : ℕ) → k ≡ Station q → Beyond d p q)
+lies_beyond_lem : (d : Side) (p : ℕ) (k : Neighbour) → (lies_beyond d p k ≡ true) ↔ ((q : ℕ) → k ≡ Some q → Beyond d p q)
 unfolding lies_beyond
 lies_beyond_lem d p None = (λ e q z. none_station z, λ h. refl)
-lies_beyond_lem d p (Station r) = (λ e q z. beyond_true d p q (rw (station_inj z) at e), λ h. true_beyond d p r (h r refl))
+lies_beyond_lem d p (Some r) = (λ e q z. beyond_true d p q (rw (station_inj z) at e), λ h. true_beyond d p r (h r refl))
 
 pub has_sides_lem : (s : Node) → (has_sides s ≡ true) ↔ Sided s
 unfolding has_sides
 has_sides_lem s = (
   λ e. let h = and_both (lies_beyond Left (number s) s.station.left) (lies_beyond Right (number s) s.station.right) e in
-      λ d. elim d as (λ (d : Side). (q : ℕ) → neighbour d s.station ≡ Station q → Beyond d (number s) q) [
+      λ d. elim d as (λ (d : Side). (q : ℕ) → neighbour d s.station ≡ Some q → Beyond d (number s) q) [
         | Left ↦ (lies_beyond_lem Left (number s) s.station.left).0 h.0
         | Right ↦ (lies_beyond_lem Right (number s) s.station.right).0 h.1
       ],
@@ -65,10 +65,10 @@ module _ (line : Line) where
     λ m. let w = node_of_lem line m in true_any (λ (s : Node). eqb n (number s)) w.1 (eq-eqb n (number w.0) w.2),
   )
 
-  knows_neighbour_lem : (k : Neighbour) → (knows_neighbour line k ≡ true) ↔ ((q : ℕ) → k ≡ Station q → Present line q)
+  knows_neighbour_lem : (k : Neighbour) → (knows_neighbour line k ≡ true) ↔ ((q : ℕ) → k ≡ Some q → Present line q)
   unfolding knows_neighbour
   knows_neighbour_lem None = (λ e q z. none_station z, λ h. refl)
-  knows_neighbour_lem (Station r) = (λ e q z. rw (station_inj z) at ((is_present_lem r).0 e), λ h. (is_present_lem r).1 (h r refl))
+  knows_neighbour_lem (Some r) = (λ e q z. rw (station_inj z) at ((is_present_lem r).0 e), λ h. (is_present_lem r).1 (h r refl))
 
   knows_content_lem : (m : Message) → (knows_content line m.content ≡ true) ↔ ((q : ℕ) → introduction q ≡ m → Present line q)
   unfolding knows_content

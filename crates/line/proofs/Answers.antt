@@ -1,17 +1,17 @@
 -- Laws of answers.
 use mathlib.Core.Path.{◌≡◌, refl, ap}
+use Rattle.std.specs.Prelude.{Ok, Err}
+use Rattle.line.specs.Types.{Ending, Leave}
 use mathlib.Core.Logic.{◌⊎◌, inl, inr}
 use mathlib.Core.Bool.{Bool, true, false}
 use Prim.Native.Nat.{ℕ}
 use native.Mathlib.Omega.{arith}
 use Rattle.line.specs.declared.Reason.{Reason}
-use Rattle.line.specs.declared.Leave.{Leave}
-use Rattle.line.specs.declared.Leave.TheVariants.{May, MayNot}
+use Rattle.line.specs.declared.Fault.{Fault}
+use Rattle.line.specs.declared.Fault.TheVariants.{PartBlock, ManyBlocks, BadCheck, BadField, BadSide, TwoBlocks, NoBlock, BadList, ShortRoom, BadFile, TooMuch}
 use Rattle.line.specs.declared.Refusal.{Refusal}
 use Rattle.line.specs.declared.Refusal.TheVariants.{Malformed, Absent, NotInBag, Staying, Held, Full}
-use Rattle.line.specs.declared.Ending.{Ending}
-use Rattle.line.specs.declared.Ending.TheVariants.{Complete, Stopped}
-use Rattle.line.specs.Answer.{refusal_number, ending_number, Answer, refused, done, is_done, ◌>>=◌, require, unless_held}
+use Rattle.line.specs.Answer.{fault_number, refusal_number, ending_number, Answer, refused, done, is_done, ◌>>=◌, require, unless_held}
 use Rattle.lists.proofs.Lists.{clash}
 
 pub done_inj : {A : Type 0} {a b : A} → done a ≡ done b → a ≡ b
@@ -29,10 +29,24 @@ no_refusal Staying e = omega arith
 no_refusal (Held why) e = omega arith
 no_refusal Full e = omega arith
 
+-- and no fault either
+pub no_fault : (f : Fault) → fault_number f ≡ 0 → ⊥
+no_fault PartBlock e = omega arith
+no_fault ManyBlocks e = omega arith
+no_fault BadCheck e = omega arith
+no_fault BadField e = omega arith
+no_fault BadSide e = omega arith
+no_fault TwoBlocks e = omega arith
+no_fault NoBlock e = omega arith
+no_fault BadList e = omega arith
+no_fault ShortRoom e = omega arith
+no_fault BadFile e = omega arith
+no_fault TooMuch e = omega arith
+
 -- "Success is 0": a run with this number came to its end
-pub ending_zero : (e : Ending) → ending_number e ≡ 0 → e ≡ Complete
-ending_zero Complete h = refl
-ending_zero (Stopped r) h = absurd (no_refusal r h)
+pub ending_zero : (e : Ending) → ending_number e ≡ 0 → e ≡ Ok tt
+ending_zero (Ok _) h = refl
+ending_zero (Err r) h = absurd (no_refusal r h)
 
 pub is_done_lem : {A : Type 0} (x : Answer A) → is_done x ≡ true → (a : A) × (x ≡ done a)
 unfolding is_done
@@ -80,23 +94,23 @@ required_refused true r e = inr (refl, e)
 required_refused false r e = inl (refl, cc)
 
 -- what is answered of a station that may leave, and of one that may not
-pub may_leave_lem : {A : Type 0} {l : Leave} (x : Answer A) → l ≡ May → unless_held l x ≡ x
+pub may_leave_lem : {A : Type 0} {l : Leave} (x : Answer A) → l ≡ Ok tt → unless_held l x ≡ x
 unfolding unless_held
 may_leave_lem x e = rw e
 
-pub may_not : {A : Type 0} {l : Leave} (why : Reason) (x : Answer A) → l ≡ MayNot why → unless_held l x ≡ refused (Held why)
+pub may_not : {A : Type 0} {l : Leave} (why : Reason) (x : Answer A) → l ≡ Err why → unless_held l x ≡ refused (Held why)
 unfolding unless_held
 may_not why x e = rw e
 
 -- what was done by a station that may leave
-pub unheld : {A : Type 0} (l : Leave) {x : Answer A} {a : A} → unless_held l x ≡ done a → (l ≡ May) × (x ≡ done a)
+pub unheld : {A : Type 0} (l : Leave) {x : Answer A} {a : A} → unless_held l x ≡ done a → (l ≡ Ok tt) × (x ≡ done a)
 unfolding unless_held
-unheld May e = (refl, e)
-unheld (MayNot why) e = refused_done e
+unheld (Ok _) e = (refl, e)
+unheld (Err why) e = refused_done e
 
 -- what was refused of a station for a reason, or though it may leave
 pub unheld_refused : {A : Type 0} (l : Leave) {x : Answer A} {q : Refusal} → unless_held l x ≡ refused q
-    → ((why : Reason) × (l ≡ MayNot why) × (Held why ≡ q)) ⊎ ((l ≡ May) × (x ≡ refused q))
+    → ((why : Reason) × (l ≡ Err why) × (Held why ≡ q)) ⊎ ((l ≡ Ok tt) × (x ≡ refused q))
 unfolding unless_held
-unheld_refused May e = inr (refl, e)
-unheld_refused (MayNot why) e = inl (why, refl, cc)
+unheld_refused (Ok _) e = inr (refl, e)
+unheld_refused (Err why) e = inl (why, refl, cc)

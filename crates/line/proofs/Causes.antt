@@ -1,5 +1,6 @@
 -- A step is refused with a number exactly when there is that number's cause.
 use mathlib.Core.Path.{◌≡◌, refl, sym, ◌∙◌, ap, subst}
+use Rattle.std.specs.Prelude.{Err}
 use mathlib.Core.Logic.{⊎_elim}
 use mathlib.Core.Bool.{true, false}
 use mathlib.Core.List.{Memᴰ as Member}
@@ -11,7 +12,6 @@ use Rattle.line.specs.declared.Message.{Message}
 use Rattle.line.specs.declared.Action.{Action}
 use Rattle.line.specs.declared.Action.TheVariants.{Timeout, Deliver, Exit}
 use Rattle.line.specs.declared.Step.{Step}
-use Rattle.line.specs.declared.Leave.TheVariants.{MayNot}
 use Rattle.line.specs.declared.Refusal.{Refusal}
 use Rattle.line.specs.declared.Refusal.TheVariants.{Malformed, Absent, NotInBag, Staying, Held, Full}
 use Rattle.lists.specs.Lists.{all}
@@ -51,7 +51,7 @@ module _ (line : Line) (ok : Accepted line) where
       (required_refused (holds m s.bag) NotInBag e)
   act_refuses s Exit e =
       ⊎_elim (λ w. subst (CauseAt s Exit) w.1 (refl, w.0))
-      (λ w. ⊎_elim (λ v. subst (CauseAt s Exit) v.2 (refl, w.0, (leave_tested line s (MayNot v.0)).0 v.1)) (λ v. refused_done (sym v.1))
+      (λ w. ⊎_elim (λ v. subst (CauseAt s Exit) v.2 (refl, w.0, (leave_tested line s (Err v.0)).0 v.1)) (λ v. refused_done (sym v.1))
       (unheld_refused (leave_of line s) w.1))
       (required_refused (leaving s) Staying e)
 
@@ -90,7 +90,7 @@ module _ (line : Line) (ok : Accepted line) where
   at_refused s a (Held why) c =
       act_refused s a (Held why)
       (ap (act (leave_of line s) s) c.0 ∙ require_true (leaving s) Staying _ c.1
-      ∙ may_not why _ ((leave_tested line s (MayNot why)).1 c.2))
+      ∙ may_not why _ ((leave_tested line s (Err why)).1 c.2))
   at_refused s a Full c =
       let t = c.4 in
       let room : has_room line c.2 ≡ true → ⊥ = λ h. omega (arith, ltb-true (length t.block.bag) capacity (room_true c.2 line h t.block t.member t.named), t.holds) in

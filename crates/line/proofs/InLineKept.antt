@@ -1,11 +1,11 @@
 -- A line whose nodes stand for nodes of a line in line is in line: In line looks at numbers, neighbours, leaving marks and removals, and at
 -- nothing else of a line.
 use mathlib.Core.Path.{◌≡◌, refl, sym, subst, ◌∙◌}
+use Rattle.std.specs.Prelude.{Some, None}
+use Rattle.line.specs.Types.{Neighbour}
 use mathlib.Core.Logic.{◌↔◌}
 use mathlib.Core.List.{Memᴰ as Member}
 use Prim.Native.Nat.{ℕ}
-use Rattle.line.specs.declared.Neighbour.{Neighbour}
-use Rattle.line.specs.declared.Neighbour.TheVariants.{None, Station}
 use Rattle.line.specs.declared.Side.{Side}
 use Rattle.line.specs.Message.{removal}
 use Rattle.line.specs.Node.{Node, Line, number, leaving, Present, neighbour}
@@ -28,7 +28,7 @@ module _ (a b : Line) (same : (n : ℕ) → Present a n ↔ Present b n) where
   -- the next station on a side is the same
   next_same : (d : Side) (p : ℕ) (k : Neighbour) → IsNext a d p k → IsNext b d p k
   next_same d p None n = λ r m. n r ((same r).1 m)
-  next_same d p (Station q) n = record {
+  next_same d p (Some q) n = record {
     present = (same q).0 n.present;
     beyond = n.beyond;
     nearest = λ r m. n.nearest r ((same r).1 m);

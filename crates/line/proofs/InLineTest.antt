@@ -1,5 +1,7 @@
 -- The tests of a line whose numbers rise say what In line says: of its neighbours, of its bags, of its marks.
 use mathlib.Core.Path.{◌≡◌, refl, sym, ap}
+use Rattle.std.specs.Prelude.{Some, None}
+use Rattle.line.specs.Types.{Neighbour}
 use mathlib.Core.Logic.{◌↔◌, ◌⊎◌, inl, inr, ⊎_elim}
 use mathlib.Core.Bool.{true, not, ◌&&◌}
 use mathlib.Core.List.Memᴰ
@@ -10,8 +12,6 @@ use mathlib.Core.List.{Memᴰ as Member}
 use Prim.Native.Nat.{ℕ, ◌<◌, ◌≤◌}
 use native.Mathlib.Omega.{arith}
 use borrow.Author.Tests.{eqb-true, eq-eqb, not-true}
-use Rattle.line.specs.declared.Neighbour.{Neighbour}
-use Rattle.line.specs.declared.Neighbour.TheVariants.{None, Station}
 use Rattle.line.specs.declared.Side.{Side}
 use Rattle.line.specs.declared.Side.TheVariants.{Left, Right}
 use Rattle.line.specs.declared.Message.{Message}
@@ -28,16 +28,16 @@ use Rattle.line.proofs.Sides.{none_station, station_inj}
 pub is_same_lem : (a b : Neighbour) → (is_same a b ≡ true) ↔ (a ≡ b)
 unfolding is_same
 is_same_lem None None = (λ e. refl, λ e. refl)
-is_same_lem None (Station n) = (λ e. clash e refl, λ e. none_station e)
-is_same_lem (Station m) None = (λ e. clash e refl, λ e. none_station (sym e))
-is_same_lem (Station m) (Station n) = (λ e. ap Station (eqb-true m n e), λ e. eq-eqb m n (station_inj e))
+is_same_lem None (Some n) = (λ e. clash e refl, λ e. none_station e)
+is_same_lem (Some m) None = (λ e. clash e refl, λ e. none_station (sym e))
+is_same_lem (Some m) (Some n) = (λ e. ap Some (eqb-true m n e), λ e. eq-eqb m n (station_inj e))
 
 -- Two stations that are next to p on one side are one.
 next_unique : (line : Line) (d : Side) (p : ℕ) (a b : Neighbour) → IsNext line d p a → IsNext line d p b → a ≡ b
 next_unique line d p None None h k = refl
-next_unique line d p None (Station n) h k = absurd (h n k.present k.beyond)
-next_unique line d p (Station m) None h k = absurd (k m h.present h.beyond)
-next_unique line d p (Station m) (Station n) h k = ap Station (one d (h.nearest n k.present k.beyond) (k.nearest m h.present h.beyond))
+next_unique line d p None (Some n) h k = absurd (h n k.present k.beyond)
+next_unique line d p (Some m) None h k = absurd (k m h.present h.beyond)
+next_unique line d p (Some m) (Some n) h k = ap Some (one d (h.nearest n k.present k.beyond) (k.nearest m h.present h.beyond))
   where
     one : (d : Side) → ¬ Beyond d n m → ¬ Beyond d m n → m ≡ n
     one Left p q = omega arith
@@ -46,15 +46,15 @@ next_unique line d p (Station m) (Station n) h k = ap Station (one d (h.nearest 
 -- A line in written order, walked from the left: what is left to walk is l, and the station passed last is prev.
 abbrev Passed : Neighbour → ℕ → Type 0
 Passed None n = ⊥
-Passed (Station p) n = n ≤ p
+Passed (Some p) n = n ≤ p
 
 abbrev Ahead : Neighbour → ℕ → Type 0
 Ahead None n = Unit {0}
-Ahead (Station p) n = p < n
+Ahead (Some p) n = p < n
 
 abbrev There : Line → Neighbour → Type 0
 There whole None = Unit {0}
-There whole (Station p) = Present whole p
+There whole (Some p) = Present whole p
 
 record Walk (whole : Line) (prev : Neighbour) (l : Line) : Type 0 where
   last : There whole prev
@@ -70,7 +70,7 @@ module _ (whole : Line) (s : Node) (l : Line) where
 
   before_is_next : (prev : Neighbour) → Walk whole prev (s ∷ l) → IsNext whole Left (number s) prev
   before_is_next None w = λ r m h. ⊎_elim (λ k. k) (λ k. ⊎_elim (λ e. omega arith) (λ e. omega arith) (place r k w.rising)) (w.split r m)
-  before_is_next (Station p) w = record {
+  before_is_next (Some p) w = record {
     present = w.last;
     beyond = w.ahead (number s) (here refl);
     nearest = λ r m h i. ⊎_elim (λ k. omega arith) (λ k. ⊎_elim (λ e. omega arith) (λ e. omega arith) (place r k w.rising)) (w.split r m);
@@ -79,9 +79,9 @@ module _ (whole : Line) (s : Node) (l : Line) where
   -- nothing passed lies above s
   not_above : (prev : Neighbour) → Walk whole prev (s ∷ l) → (r : ℕ) → Passed prev r → number s < r → ⊥
   not_above None w r k h = k
-  not_above (Station p) w r k h = omega (arith, w.ahead (number s) (here refl))
+  not_above (Some p) w r k h = omega (arith, w.ahead (number s) (here refl))
 
-  step_on : (prev : Neighbour) → Walk whole prev (s ∷ l) → Walk whole (Station (number s)) l
+  step_on : (prev : Neighbour) → Walk whole prev (s ∷ l) → Walk whole (Some (number s)) l
   step_on prev w = record {
     last = w.inside (number s) (here refl);
     inside = λ n m. w.inside n (there m);
@@ -92,7 +92,7 @@ module _ (whole : Line) (s : Node) (l : Line) where
     where
       below : (prev : Neighbour) → Walk whole prev (s ∷ l) → (n : ℕ) → Passed prev n → n ≤ number s
       below None w n k = absurd k
-      below (Station p) w n k = omega (arith, w.ahead (number s) (here refl))
+      below (Some p) w n k = omega (arith, w.ahead (number s) (here refl))
 
 after_is_next : (whole : Line) (prev : Neighbour) (s : Node) (l : Line) → Walk whole prev (s ∷ l) → IsNext whole Right (number s) (first l)
 unfolding first
@@ -111,13 +111,13 @@ module _ (whole : Line) where
       → (s : Node) → Member s l → (d : Side) → IsNext whole d (number s) (neighbour d s.station)
   unfolding neighbours_after
   walked prev [] w e s m d = absurd (Memᴰ.not-nil m)
-  walked prev (t ∷ l) w e s m d = ⊎_elim (λ (z : s ≡ t). rw z (at d)) (λ k. walked (Station (number t)) l (step_on whole t l prev w) rest.1 s k d) (Memᴰ.cases_cons m)
+  walked prev (t ∷ l) w e s m d = ⊎_elim (λ (z : s ≡ t). rw z (at d)) (λ k. walked (Some (number t)) l (step_on whole t l prev w) rest.1 s k d) (Memᴰ.cases_cons m)
     where
-      parts : (is_same t.station.left prev ≡ true) × ((is_same t.station.right (first l) && neighbours_after (Station (number t)) l) ≡ true)
-      parts = and_both (is_same t.station.left prev) (is_same t.station.right (first l) && neighbours_after (Station (number t)) l) e
+      parts : (is_same t.station.left prev ≡ true) × ((is_same t.station.right (first l) && neighbours_after (Some (number t)) l) ≡ true)
+      parts = and_both (is_same t.station.left prev) (is_same t.station.right (first l) && neighbours_after (Some (number t)) l) e
 
-      rest : (is_same t.station.right (first l) ≡ true) × (neighbours_after (Station (number t)) l ≡ true)
-      rest = and_both (is_same t.station.right (first l)) (neighbours_after (Station (number t)) l) parts.1
+      rest : (is_same t.station.right (first l) ≡ true) × (neighbours_after (Some (number t)) l ≡ true)
+      rest = and_both (is_same t.station.right (first l)) (neighbours_after (Some (number t)) l) parts.1
 
       at : (d : Side) → IsNext whole d (number t) (neighbour d t.station)
       at Left = rw ((is_same_lem t.station.left prev).0 parts.0) (before_is_next whole t l prev w)
@@ -130,7 +130,7 @@ module _ (whole : Line) where
   walks prev (t ∷ l) w h =
       both_and ((is_same_lem t.station.left prev).1 (next_unique whole Left (number t) t.station.left prev (h t (here refl) Left) (before_is_next whole t l prev w)))
       (both_and ((is_same_lem t.station.right (first l)).1 (next_unique whole Right (number t) t.station.right (first l) (h t (here refl) Right) (after_is_next whole prev t l w)))
-      (walks (Station (number t)) l (step_on whole t l prev w) (λ s m. h s (there m))))
+      (walks (Some (number t)) l (step_on whole t l prev w) (λ s m. h s (there m))))
 
 pub neighbours_tested : NeighboursTested
 unfolding neighbours_in_line

@@ -1,8 +1,9 @@
 -- The test `leave_of` says whether NIDEC holds, and what holds the station where it does not.
 use mathlib.Core.Path.{◌≡◌, refl, sym, ◌∙◌, ap, subst}
+use Rattle.std.specs.Prelude.{Option, Some, None, Ok, Err}
+use Rattle.line.specs.Types.{Leave, Neighbour}
 use mathlib.Core.Logic.{◌≢◌, ⊎_elim}
 use mathlib.Core.Bool.{Bool, true, false, not, cond, ◌||◌}
-use mathlib.Core.Option.{Option, none, some}
 use mathlib.Core.List.Memᴰ
 use mathlib.Core.List.{List, [], ◌∷◌}
 use mathlib.Core.List.Memᴰ.{head as here}
@@ -12,14 +13,10 @@ use Prim.Native.Nat.{ℕ, ◌≤◌}
 use native.Mathlib.Omega.{arith}
 use lib.Dec.{eqb, ltb}
 use borrow.Author.Tests.{eqb-true, eqb-false, eq-eqb, ne_eqb, ltb-true, ltb-false, not-true}
-use Rattle.line.specs.declared.Neighbour.{Neighbour}
-use Rattle.line.specs.declared.Neighbour.TheVariants.{None, Station}
 use Rattle.line.specs.declared.Message.{Message}
 use Rattle.line.specs.declared.Side.TheVariants.{Left, Right}
 use Rattle.line.specs.declared.Reason.{Reason}
 use Rattle.line.specs.declared.Reason.TheVariants.{OwnBag, HeldBy}
-use Rattle.line.specs.declared.Leave.{Leave}
-use Rattle.line.specs.declared.Leave.TheVariants.{May, MayNot}
 use Rattle.line.specs.Message.{introduction, holds}
 use Rattle.line.specs.Node.{Node, Line, number}
 use Rattle.line.specs.Links.{Linked, by_neighbour, by_introduction, Link, link}
@@ -29,12 +26,12 @@ use Rattle.line.specs.Claims.{LeaveTested, ReasonExactly, ReasonOnce}
 use Rattle.lists.proofs.Lists.{clash, and_both, or_cases, or_right}
 use Rattle.line.proofs.Messages.{held_mem, mem_held}
 
-pub is_neighbour_lem : (n : ℕ) (k : Neighbour) → is_neighbour n k ≡ true → k ≡ Station n
+pub is_neighbour_lem : (n : ℕ) (k : Neighbour) → is_neighbour n k ≡ true → k ≡ Some n
 unfolding is_neighbour
 is_neighbour_lem n None e = clash e refl
-is_neighbour_lem n (Station m) e = rw (eqb-true n m e)
+is_neighbour_lem n (Some m) e = rw (eqb-true n m e)
 
-neighbour_is : (n : ℕ) {k : Neighbour} → k ≡ Station n → is_neighbour n k ≡ true
+neighbour_is : (n : ℕ) {k : Neighbour} → k ≡ Some n → is_neighbour n k ≡ true
 unfolding is_neighbour
 neighbour_is n e = rw e (eq-eqb n n refl)
 
@@ -80,8 +77,8 @@ pub record Smallest (p : ℕ) (line : Line) (q : ℕ) : Type 0 where
   pub least : (t : Node) → Member t line → is_holder p t ≡ true → q ≤ number t
 
 abbrev pub Found : ℕ → Line → Option ℕ → Type 0
-Found p line none = (s : Node) → Member s line → is_holder p s ≡ true → ⊥
-Found p line (some q) = Smallest p line q
+Found p line None = (s : Node) → Member s line → is_holder p s ≡ true → ⊥
+Found p line (Some q) = Smallest p line q
 
 pub holder_found : (p : ℕ) (line : Line) → Found p line (holder_of p line)
 unfolding holder_of
@@ -106,10 +103,10 @@ holder_found p (s ∷ line) = go (is_holder p s) refl (holder_of p line) (holder
     both q e w false h = alone e (λ t m k. omega (arith, w.least t m k, ltb-false q (number s) h))
 
     go : (b : Bool) → is_holder p s ≡ b → (o : Option ℕ) → Found p line o → Found p (s ∷ line) (smaller b (number s) o)
-    go true e none h = alone e (λ t m k. absurd (h t m k))
-    go true e (some q) w = both q e w (ltb q (number s)) refl
-    go false e none h = λ t m k. ⊎_elim (λ z. clash (rw (← z) k) e) (λ i. h t i k) (Memᴰ.cases_cons m)
-    go false e (some q) w = other w (λ k. clash k e)
+    go true e None h = alone e (λ t m k. absurd (h t m k))
+    go true e (Some q) w = both q e w (ltb q (number s)) refl
+    go false e None h = λ t m k. ⊎_elim (λ z. clash (rw (← z) k) e) (λ i. h t i k) (Memᴰ.cases_cons m)
+    go false e (Some q) w = other w (λ k. clash k e)
 
 -- the smallest is the holder that the paper asks for
 smallest_holder : {p q : ℕ} {line : Line} → Smallest p line q → Holder line p q
@@ -128,9 +125,9 @@ module _ (line : Line) (s : Node) where
   unfolding leave_of
   leave_is = go (is_empty s.bag) refl (holder_of (number s) line) (holder_found (number s) line)
     where
-      go : (b : Bool) → is_empty s.bag ≡ b → (o : Option ℕ) → Found (number s) line o → LeaveIs line s (cond b (held_by o) (MayNot OwnBag))
-      go true e none h = record { empty = is_empty_lem s.bag e; unnamed = λ t m i l. h t m (linked_holder i l) }
-      go true e (some q) w = (is_empty_lem s.bag e, smallest_holder w)
+      go : (b : Bool) → is_empty s.bag ≡ b → (o : Option ℕ) → Found (number s) line o → LeaveIs line s (cond b (held_by o) (Err OwnBag))
+      go true e None h = record { empty = is_empty_lem s.bag e; unnamed = λ t m i l. h t m (linked_holder i l) }
+      go true e (Some q) w = (is_empty_lem s.bag e, smallest_holder w)
       go false e o w = λ h. clash (empty_is h) e
 
   no_holder : {q : ℕ} → Nidec line s → Holder line (number s) q → ⊥
@@ -153,14 +150,14 @@ module _ (line : Line) (s : Node) where
   not_both (HeldBy q) n h = no_holder n h.1
 
   leave_once : (a b : Leave) → LeaveIs line s a → LeaveIs line s b → a ≡ b
-  leave_once May May h k = refl
-  leave_once May (MayNot why) h k = absurd (not_both why h k)
-  leave_once (MayNot why) May h k = absurd (not_both why k h)
-  leave_once (MayNot why) (MayNot other) h k = ap MayNot (same_reason why other h k)
+  leave_once (Ok _) (Ok _) h k = refl
+  leave_once (Ok _) (Err why) h k = absurd (not_both why h k)
+  leave_once (Err why) (Ok _) h k = absurd (not_both why k h)
+  leave_once (Err why) (Err other) h k = ap Err (same_reason why other h k)
 
   reason_there : (l : Leave) → LeaveIs line s l → ¬ Nidec line s → (why : Reason) × Why line s why
-  reason_there May h n = absurd (n h)
-  reason_there (MayNot why) h n = (why, h)
+  reason_there (Ok _) h n = absurd (n h)
+  reason_there (Err why) h n = (why, h)
 
 pub leave_tested : LeaveTested
 leave_tested line s l = (λ e. subst (LeaveIs line s) e (leave_is line s), λ h. leave_once line s (leave_of line s) l (leave_is line s) h)

@@ -1,8 +1,9 @@
 -- What one station does in a step, as far as its links go: each link that it had is joined after, and each new one was joined before.
 use mathlib.Core.Path.{◌≡◌, refl, sym, ◌∙◌, ap, subst}
+use Rattle.std.specs.Prelude.{Option, Some, None, Ok}
+use Rattle.line.specs.Types.{Leave, Neighbour}
 use mathlib.Core.Logic.{◌≢◌, ◌⊎◌, inl, inr, ⊎_elim}
 use mathlib.Core.Bool.{Bool, true, false, cond}
-use mathlib.Core.Option.{Option, none, some}
 use mathlib.Core.List.Memᴰ
 use mathlib.Core.List.{List, [], ◌++◌}
 use mathlib.Core.List.Memᴰ.{head as here}
@@ -12,16 +13,12 @@ use native.Mathlib.Omega.{arith}
 use lib.Dec.{eqb}
 use borrow.Author.Tests.{eqb-true, eqb-false}
 use lib.ListN.{length}
-use Rattle.line.specs.declared.Neighbour.{Neighbour}
-use Rattle.line.specs.declared.Neighbour.TheVariants.{None, Station}
 use Rattle.line.specs.declared.Content.{Content}
 use Rattle.line.specs.declared.Content.TheVariants.{Introduction, RemoveLeft, RemoveRight}
 use Rattle.line.specs.declared.Message.{Message}
 use Rattle.line.specs.declared.Station as declared
 use Rattle.line.specs.declared.Side.{Side}
 use Rattle.line.specs.declared.Side.TheVariants.{Left, Right}
-use Rattle.line.specs.declared.Leave.{Leave}
-use Rattle.line.specs.declared.Leave.TheVariants.{May}
 use Rattle.line.specs.declared.Refusal.TheVariants.{NotInBag, Staying}
 use Rattle.line.specs.declared.Action.{Action}
 use Rattle.line.specs.declared.Action.TheVariants.{Timeout, Deliver, Exit}
@@ -74,8 +71,8 @@ pub record Gone (line : Line) (n : ℕ) (P : ℕ → Type 0) (l : List Send) : T
 
 -- Either way its links are kept.
 abbrev pub LinksKept : Line → ℕ → (ℕ → Type 0) → Option Node → List Send → Type 0
-LinksKept line n P none l = Gone line n P l
-LinksKept line n P (some s) l = Remains n P s l
+LinksKept line n P None l = Gone line n P l
+LinksKept line n P (Some s) l = Remains n P s l
 
 -- sends
 fair_none : {P Q : ℕ → Type 0} → Fair P Q []
@@ -116,7 +113,7 @@ module _ (p : declared.Station) (b : List Message) (ok : Sided (node p b)) (smal
     after : Node
     after = node (with_neighbour d k p) b
 
-    turned : ((q : ℕ) → k ≡ Station q → Beyond d p.number q × P q) → Fair P (SelfOr p.number P) l → ((y : ℕ) → P y → Chain (Edge after l) p.number y)
+    turned : ((q : ℕ) → k ≡ Some q → Beyond d p.number q × P q) → Fair P (SelfOr p.number P) l → ((y : ℕ) → P y → Chain (Edge after l) p.number y)
         → Remains p.number P after l
     unfolding after
     turned g f j = record {
@@ -129,32 +126,32 @@ module _ (p : declared.Station) (b : List Message) (ok : Sided (node p b)) (smal
     }
 
     -- a link that is no link by the old neighbour is still there
-    other_link : (y : ℕ) → (neighbour d p ≡ Station y → Chain (Edge after l) p.number y) → Linked (node p b) y → Chain (Edge after l) p.number y
+    other_link : (y : ℕ) → (neighbour d p ≡ Some y → Chain (Edge after l) p.number y) → Linked (node p b) y → Chain (Edge after l) p.number y
     unfolding after
     other_link y f h = ⊎_elim f (λ i. forward (own (sym (changed_number d k p)) i)) (links_changed d k p b h)
 
-  to_new : (d : Side) (q : ℕ) (l : List Send) → Edge (node (with_neighbour d (Station q) p) b) l p.number q
-  to_new d q l = own (sym (changed_number d (Station q) p)) (by_neighbour d (changed_neighbour d (Station q) p))
+  to_new : (d : Side) (q : ℕ) (l : List Send) → Edge (node (with_neighbour d (Some q) p) b) l p.number q
+  to_new d q l = own (sym (changed_number d (Some q) p)) (by_neighbour d (changed_neighbour d (Some q) p))
 
   -- an introduction of q has been taken: P is q and what the station is linked to
   module _ (q : ℕ) (isq : P q) (split : (y : ℕ) → P y → (y ≡ q) ⊎ Linked (node p b) y) where
     becomes : (d : Side) (l : List Send) → Beyond d p.number q → Fair P (SelfOr p.number P) l
-        → ((y : ℕ) → neighbour d p ≡ Station y → Chain (Edge (node (with_neighbour d (Station q) p) b) l) p.number y)
-        → Remains p.number P (node (with_neighbour d (Station q) p) b) l
+        → ((y : ℕ) → neighbour d p ≡ Some y → Chain (Edge (node (with_neighbour d (Some q) p) b) l) p.number y)
+        → Remains p.number P (node (with_neighbour d (Some q) p) b) l
     unfolding after
     becomes d l h f g =
-        turned d (Station q) l (λ x z. (rw (sym (station_inj z)) h, rw (sym (station_inj z)) isq)) f
-        (λ y i. ⊎_elim (λ (e : y ≡ q). rw e (forward (to_new d q l))) (other_link d (Station q) l y (g y)) (split y i))
+        turned d (Some q) l (λ x z. (rw (sym (station_inj z)) h, rw (sym (station_inj z)) isq)) f
+        (λ y i. ⊎_elim (λ (e : y ≡ q). rw e (forward (to_new d q l))) (other_link d (Some q) l y (g y)) (split y i))
 
     met : (d : Side) (k : Neighbour) → neighbour d p ≡ k → Beyond d p.number q → AfterDelivery P b p (meet d p q k)
     unfolding meet
     met d None e h = becomes d [] h fair_none (λ y z. none_station (sym e ∙ z))
-    met d (Station r) e h = go (beyond d q r) (eqb q r) refl
+    met d (Some r) e h = go (beyond d q r) (eqb q r) refl
       where
         isr : P r
         isr = keep r (by_neighbour d e)
 
-        nearer : Remains p.number P (node (with_neighbour d (Station q) p) b) (send q (introduction r))
+        nearer : Remains p.number P (node (with_neighbour d (Some q) p) b) (send q (introduction r))
         nearer =
             becomes d (send q (introduction r)) h (fair_one q (introduction r) isq (λ y z. inr (rw (introduction_inj z) isr)))
             (λ y z. along (to_new d q (send q (introduction r))) (forward (sent (rw (station_inj (sym z ∙ e)) sent_one))))
@@ -169,7 +166,7 @@ module _ (p : declared.Station) (b : List Message) (ok : Sided (node p b)) (smal
 
         go : (t u : Bool) → eqb q r ≡ u
             → AfterDelivery P b p
-            (cond t (record { station = with_neighbour d (Station q) p; sends = send q (introduction r) }) (cond u (unchanged p) (record { station = p; sends = send r (introduction q) })))
+            (cond t (record { station = with_neighbour d (Some q) p; sends = send q (introduction r) }) (cond u (unchanged p) (record { station = p; sends = send r (introduction q) })))
         go true u z = nearer
         go false true z = equal_to (eqb-true q r z)
         go false false z = farther
@@ -193,7 +190,7 @@ module _ (p : declared.Station) (b : List Message) (ok : Sided (node p b)) (smal
     dropped_kept : (d : Side) (k : Neighbour) → neighbour d p ≡ k → AfterDelivery P b p (drop_neighbour d p k)
     unfolding drop_neighbour after
     dropped_kept d None e = as_it_is
-    dropped_kept d (Station r) e =
+    dropped_kept d (Some r) e =
         turned d None (send r (introduction p.number)) (λ x z. none_station z)
         (fair_one r (introduction p.number) (keep r (by_neighbour d e)) (λ y z. inl (introduction_inj z)))
         (λ y i. other_link d None (send r (introduction p.number)) y (λ z. backward (sent (rw (station_inj (sym z ∙ e)) sent_one))) (split y i))
@@ -259,7 +256,7 @@ module _ (line : Line) (s : Node) (ok : Sided s) (small : length s.bag ≤ capac
     no_message : {m : Message} → Member m s.bag → ⊥
     no_message k = Memᴰ.not-nil (rw nidecHolds.empty at k)
 
-    by_side : {y : ℕ} → Linked s y → (s.station.left ≡ Station y) ⊎ (s.station.right ≡ Station y)
+    by_side : {y : ℕ} → Linked s y → (s.station.left ≡ Some y) ⊎ (s.station.right ≡ Some y)
     by_side (by_neighbour Left h) = inl h
     by_side (by_neighbour Right h) = inr h
     by_side (by_introduction m) = absurd (no_message m)
@@ -269,22 +266,22 @@ module _ (line : Line) (s : Node) (ok : Sided s) (small : length s.bag ≤ capac
     other_station y (by_introduction m) = absurd (no_message m)
 
     -- the neighbours that there are, one at each side, and the station that stands for s
-    gone : (l : List Send) → Fair (Linked s) (Linked s) l → (n : ℕ) → ((y : ℕ) → (s.station.left ≡ Station y) ⊎ (s.station.right ≡ Station y) → Chain (Sent l) n y)
+    gone : (l : List Send) → Fair (Linked s) (Linked s) l → (n : ℕ) → ((y : ℕ) → (s.station.left ≡ Some y) ⊎ (s.station.right ≡ Some y) → Chain (Sent l) n y)
         → Gone line (number s) (Linked s) l
     gone l f n j = record { fair = f; other = other_station; unlinked = nidecHolds.unnamed; proxy = n; joined = λ y h. j y (by_side h) }
 
     exit_gone : (a c : Neighbour) → s.station.left ≡ a → s.station.right ≡ c → Gone line (number s) (Linked s) (introduce_both a c)
     unfolding introduce_both send_to
     exit_gone None None p q = gone [] fair_none 0 (λ y. ⊎_elim (λ z. none_station (sym p ∙ z)) (λ z. none_station (sym q ∙ z)))
-    exit_gone None (Station r) p q = gone [] fair_none r (λ y. ⊎_elim (λ z. none_station (sym p ∙ z)) (λ z. equal (station_inj (sym q ∙ z))))
-    exit_gone (Station l) None p q = gone [] fair_none l (λ y. ⊎_elim (λ z. equal (station_inj (sym p ∙ z))) (λ z. none_station (sym q ∙ z)))
-    exit_gone (Station l) (Station r) p q =
+    exit_gone None (Some r) p q = gone [] fair_none r (λ y. ⊎_elim (λ z. none_station (sym p ∙ z)) (λ z. equal (station_inj (sym q ∙ z))))
+    exit_gone (Some l) None p q = gone [] fair_none l (λ y. ⊎_elim (λ z. equal (station_inj (sym p ∙ z))) (λ z. none_station (sym q ∙ z)))
+    exit_gone (Some l) (Some r) p q =
         gone (send l (introduction r) ++ send r (introduction l))
-        (fair_two s p q (introduction r) (introduction l) (λ y z. by_neighbour Right (q ∙ ap Station (sym (introduction_inj z)))) (λ y z. by_neighbour Left (p ∙ ap Station (sym (introduction_inj z)))))
+        (fair_two s p q (introduction r) (introduction l) (λ y z. by_neighbour Right (q ∙ ap Some (sym (introduction_inj z)))) (λ y z. by_neighbour Left (p ∙ ap Some (sym (introduction_inj z)))))
         l (λ y. ⊎_elim (λ z. equal (station_inj (sym p ∙ z))) (λ z. forward (here (ap (λ (n : ℕ). record { to = l; message = introduction n }) (station_inj (sym z ∙ q))))))
 
   -- every action
-  pub act_links : (l : Leave) → (l ≡ May → Nidec line s) → (a : Action) {e : Effect} → act l s a ≡ done e → LinksKept line (number s) (Linked s) e.after e.sends
+  pub act_links : (l : Leave) → (l ≡ Ok tt → Nidec line s) → (a : Action) {e : Effect} → act l s a ≡ done e → LinksKept line (number s) (Linked s) e.after e.sends
   unfolding act
   act_links l n Timeout h = subst (λ (e : Effect). LinksKept line (number s) (Linked s) e.after e.sends) (done_inj h) timeout_kept
   act_links l n (Deliver m) h =
@@ -302,25 +299,25 @@ pub record Keeps (s t : Node) : Type 0 where
   pub order : Ordered precedes s.bag → Ordered precedes t.bag
 
 abbrev pub KeepsIfThere : Node → Option Node → Type 0
-KeepsIfThere s none = Unit {0}
-KeepsIfThere s (some t) = Keeps s t
+KeepsIfThere s None = Unit {0}
+KeepsIfThere s (Some t) = Keeps s t
 
 module _ (p : declared.Station) where
   met_marks : (d : Side) (q : ℕ) (k : Neighbour) → (meet d p q k).station.marks ≡ p.marks
   unfolding meet
-  met_marks d q None = changed_marks d (Station q) p
-  met_marks d q (Station r) = go (beyond d q r) (eqb q r)
+  met_marks d q None = changed_marks d (Some q) p
+  met_marks d q (Some r) = go (beyond d q r) (eqb q r)
     where
       go : (t u : Bool)
-          → (cond t (record { station = with_neighbour d (Station q) p; sends = send q (introduction r) }) (cond u (unchanged p) (record { station = p; sends = send r (introduction q) }))).station.marks ≡ p.marks
-      go true u = changed_marks d (Station q) p
+          → (cond t (record { station = with_neighbour d (Some q) p; sends = send q (introduction r) }) (cond u (unchanged p) (record { station = p; sends = send r (introduction q) }))).station.marks ≡ p.marks
+      go true u = changed_marks d (Some q) p
       go false true = refl
       go false false = refl
 
   dropped_marks : (d : Side) (k : Neighbour) → (drop_neighbour d p k).station.marks ≡ p.marks
   unfolding drop_neighbour
   dropped_marks d None = refl
-  dropped_marks d (Station r) = changed_marks d None p
+  dropped_marks d (Some r) = changed_marks d None p
 
   either_marks : (t : Bool) (a b : Reaction) → a.station.marks ≡ p.marks → b.station.marks ≡ p.marks → (cond t a b).station.marks ≡ p.marks
   either_marks true a b g h = g

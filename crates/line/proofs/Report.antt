@@ -1,8 +1,9 @@
 -- Figure 1 of the report and the step rules allow the same steps with the same effect, up to the bound of 32 messages a bag.
 use mathlib.Core.Path.{◌≡◌, refl, sym, ◌∙◌, ap, ap₂, subst}
+use Rattle.std.specs.Prelude.{Option, Some, None, Ok}
+use Rattle.line.specs.Types.{Leave, Neighbour}
 use mathlib.Core.Logic.{◌≢◌, ⊎_elim, by_cases}
 use mathlib.Core.Bool.{Bool, true, false, cond, not}
-use mathlib.Core.Option.{Option, none, some}
 use mathlib.Core.List.Memᴰ
 use mathlib.Core.List.{List, [], ◌∷◌, ◌++◌, map}
 use mathlib.Core.List.{Memᴰ as Member}
@@ -10,13 +11,9 @@ use Prim.Native.Nat.{ℕ, ◌≤◌}
 use native.Mathlib.Omega.{arith}
 use native.Mathlib.Decide.{ℕ_discrete}
 use lib.ListN.{length}
-use Rattle.line.specs.declared.Neighbour.{Neighbour}
-use Rattle.line.specs.declared.Neighbour.TheVariants.{None, Station}
 use Rattle.line.specs.declared.Content.{Content}
 use Rattle.line.specs.declared.Content.TheVariants.{Introduction, RemoveLeft, RemoveRight}
 use Rattle.line.specs.declared.Message.{Message}
-use Rattle.line.specs.declared.Leave.{Leave}
-use Rattle.line.specs.declared.Leave.TheVariants.{May}
 use Rattle.line.specs.declared.Refusal.TheVariants.{NotInBag, Staying, Full}
 use Rattle.line.specs.declared.Step as steps
 use Rattle.line.specs.declared.Side.{Side}
@@ -58,39 +55,39 @@ map_swap : (f g : Node → Node) → ((s : Node) → f (g s) ≡ g (f s)) → (l
 map_swap f g h [] = refl
 map_swap f g h (s ∷ line) = ap₂ (λ (t : Node) (l : Line). t ∷ l) (h s) (map_swap f g h line)
 
-send_swap : (a b : Neighbour) (c e : Message) → ((x y : ℕ) → a ≡ Station x → b ≡ Station y → x ≢ y) → (line : Line)
+send_swap : (a b : Neighbour) (c e : Message) → ((x y : ℕ) → a ≡ Some x → b ≡ Some y → x ≢ y) → (line : Line)
     → send_all (send_to a c ++ send_to b e) line ≡ send_all (send_to b e ++ send_to a c) line
 unfolding send_to send_all
 send_swap None None c e h line = refl
-send_swap None (Station y) c e h line = refl
-send_swap (Station x) None c e h line = refl
-send_swap (Station x) (Station y) c e h line =
+send_swap None (Some y) c e h line = refl
+send_swap (Some x) None c e h line = refl
+send_swap (Some x) (Some y) c e h line =
     map_swap (change y (with_message e)) (change x (with_message c)) (change_swap x y (with_message c) (with_message e) (h x y refl refl) (receive_number c) (receive_number e)) line
 
 -- What the figure sends to a neighbour.
 pub intro_to : (d : Side) (n : ℕ) (k : Neighbour) → mail (Intro (process n)) (variable d k) ≡ send_to k (introduction n)
 unfolding mail left_id right_id send_to
 intro_to Left n None = refl
-intro_to Left n (Station r) = refl
+intro_to Left n (Some r) = refl
 intro_to Right n None = refl
-intro_to Right n (Station r) = refl
+intro_to Right n (Some r) = refl
 
 req_left : (k : Neighbour) → mail (Req remright) (left_id k) ≡ send_to k (removal Right)
 unfolding mail left_id send_to
 req_left None = refl
-req_left (Station r) = refl
+req_left (Some r) = refl
 
 req_right : (k : Neighbour) → mail (Req remleft) (right_id k) ≡ send_to k (removal Left)
 unfolding mail right_id send_to
 req_right None = refl
-req_right (Station r) = refl
+req_right (Some r) = refl
 
 module _ (line : Line) (s : Node) (ok : Sided s) where
   -- the two neighbours are two stations
-  sides_differ : (x y : ℕ) → s.station.left ≡ Station x → s.station.right ≡ Station y → x ≢ y
+  sides_differ : (x y : ℕ) → s.station.left ≡ Some x → s.station.right ≡ Some y → x ≢ y
   sides_differ x y e f z = omega (arith, ok Left x e, ok Right y f, z)
 
-  same_node : node_of (process_of s) ≡ some s
+  same_node : node_of (process_of s) ≡ Some s
   unfolding node_of process_of
   same_node = rw (id_back Left s.station.left, id_back Right s.station.right)
 
@@ -98,7 +95,7 @@ module _ (line : Line) (s : Node) (ok : Sided s) where
   state : Process → Line
   state v = send_all v.sent (replace (number s) (node_of v) line)
 
-  timeout_agrees : state_after line s Timeout ≡ send_all (timeout s.station) (replace (number s) (some s) line)
+  timeout_agrees : state_after line s Timeout ≡ send_all (timeout s.station) (replace (number s) (Some s) line)
   unfolding state state_after command report.timeout if◌then◌otherwise◌ not_leaving timeout notice process_of node_of ◌⨾◌ send◌to◌ intro req p left right
   timeout_agrees = go s.station.marks.leaving refl
     where
@@ -115,7 +112,7 @@ module _ (line : Line) (s : Node) (ok : Sided s) where
       sends t = send_to l (cond t (removal Right) (introduction n)) ++ send_to r (cond t (removal Left) (introduction n))
 
       here_after : Line
-      here_after = replace n (some s) line
+      here_after = replace n (Some s) line
 
       figure : {t : Bool} → s.station.marks.leaving ≡ t
           → command Timeout (process_of s)
@@ -137,18 +134,18 @@ module _ (line : Line) (s : Node) (ok : Sided s) where
           ∙ send_swap r l (removal Left) (removal Right) (λ x y f g z. sides_differ y x g f (sym z)) here_after
           ∙ sym (ap (λ (t : Bool). send_all (sends t) here_after) e)
 
-  exit_agrees : state_after line s Exit ≡ send_all (introduce_both s.station.left s.station.right) (replace (number s) none line)
+  exit_agrees : state_after line s Exit ≡ send_all (introduce_both s.station.left s.station.right) (replace (number s) None line)
   unfolding state state_after command exit process_of node_of ◌⨾◌ if◌then◌ ◌and◌ defined is_process send◌to◌ intro left right exited mail left_id right_id introduce_both send_to
   exit_agrees = gone s.station.left s.station.right sides_differ
     where
       leaves : Neighbour → Neighbour → Process
       leaves a c = exit (record { p = number s; marks = s.station.marks; left = left_id a; right = right_id c; C = s.bag; sent = []; exited = false })
 
-      gone : (a c : Neighbour) → ((x y : ℕ) → a ≡ Station x → c ≡ Station y → x ≢ y) → state (leaves a c) ≡ send_all (introduce_both a c) (replace (number s) none line)
+      gone : (a c : Neighbour) → ((x y : ℕ) → a ≡ Some x → c ≡ Some y → x ≢ y) → state (leaves a c) ≡ send_all (introduce_both a c) (replace (number s) None line)
       gone None None h = refl
-      gone None (Station y) h = refl
-      gone (Station x) None h = refl
-      gone (Station x) (Station y) h = send_swap (Station y) (Station x) (introduction x) (introduction y) (λ i j e f z. h j i f e (sym z)) (replace (number s) none line)
+      gone None (Some y) h = refl
+      gone (Some x) None h = refl
+      gone (Some x) (Some y) h = send_swap (Some y) (Some x) (introduction x) (introduction y) (λ i j e f z. h j i f e (sym z)) (replace (number s) None line)
 
   received_matches : (b : List Message) (c : Content) → Matches b (handle c (start s.station b)) (received s.station c)
   unfolding handle received removal
@@ -180,15 +177,15 @@ module _ (line : Line) (s : Node) where
   guarded (Deliver m) h = held_mem m s.bag (required (holds m s.bag) NotInBag h).0
   guarded Exit h =
       let w = required (leaving s) Staying h in
-      ((leave_tested line s May).0 (unheld (leave_of line s) w.1).0, w.0)
+      ((leave_tested line s (Ok tt)).0 (unheld (leave_of line s) w.1).0, w.0)
 
   allowed : (a : Action) → Guard line s a → (e : Effect) × (act (leave_of line s) s a ≡ done e)
   unfolding act
-  allowed Timeout h = (record { after = some s; sends = timeout s.station }, refl)
+  allowed Timeout h = (record { after = Some s; sends = timeout s.station }, refl)
   allowed (Deliver m) h = (kept (remove m s.bag) (received s.station m.content), require_true (holds m s.bag) NotInBag _ (mem_held m h))
   allowed Exit h = (
-    record { after = none; sends = introduce_both s.station.left s.station.right },
-    require_true (leaving s) Staying _ h.1 ∙ may_leave_lem _ ((leave_tested line s May).1 h.0),
+    record { after = None; sends = introduce_both s.station.left s.station.right },
+    require_true (leaving s) Staying _ h.1 ∙ may_leave_lem _ ((leave_tested line s (Ok tt)).1 h.0),
   )
 
 receive_bag : (m : Message) (t : Node) → (with_message m t).bag ≡ put m t.bag
@@ -238,8 +235,8 @@ room_has m line r = true_room m line (λ t k e. (room_for m.message t.bag).1 (r 
 -- a node of another number is where it was
 replaced_keeps : (n : ℕ) (o : Option Node) {line : Line} {t : Node} → Member t line → number t ≢ n → Member t (replace n o line)
 unfolding replace
-replaced_keeps n none {line} m h = mem_without n line m h
-replaced_keeps n (some u) m h = keeps_other n (λ (t : Node). u) m h
+replaced_keeps n None {line} m h = mem_without n line m h
+replaced_keeps n (Some u) m h = keeps_other n (λ (t : Node). u) m h
 
 -- if no bag holds more than 32 afterwards, every receiver had room
 within_room : (line : Line) (n : ℕ) (e : Effect) → Clear n e.sends → WithinCapacity (send_all e.sends (replace n e.after line))

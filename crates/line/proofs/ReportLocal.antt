@@ -1,16 +1,15 @@
 -- What Figure 1 of the report does at a process is what the step rules do at a station.
 use mathlib.Core.Path.{◌≡◌, refl, sym, ◌∙◌, ap, subst, subst₂}
+use Rattle.std.specs.Prelude.{Some, None}
+use Rattle.line.specs.Types.{Neighbour}
 use mathlib.Core.Logic.{◌≢◌, by_cases}
 use mathlib.Core.Bool.{Bool, true, false, cond, not, ◌&&◌, and-true, and-false}
-use mathlib.Core.Option.{some}
 use mathlib.Core.List.{List, []}
 use Prim.Native.Nat.{ℕ, ◌≤◌}
 use native.Mathlib.Omega.{arith}
 use native.Mathlib.Decide.{ℕ_discrete}
 use lib.Dec.{eqb, ltb}
 use borrow.Author.Tests.{lt-ltb, le-ltb, eq-eqb, ne_eqb, ltb-true, ltb-false, eqb-true, eqb-false}
-use Rattle.line.specs.declared.Neighbour.{Neighbour}
-use Rattle.line.specs.declared.Neighbour.TheVariants.{None, Station}
 use Rattle.line.specs.declared.Message.{Message}
 use Rattle.line.specs.declared.Marks.{Marks}
 use Rattle.line.specs.declared.Station as declared
@@ -35,21 +34,21 @@ station Right n g k o = record { number = n; left = o; right = k; marks = g }
 pub id_back : (d : Side) (k : Neighbour) → neighbour_of (variable d k) ≡ k
 unfolding neighbour_of left_id right_id
 id_back Left None = refl
-id_back Left (Station n) = refl
+id_back Left (Some n) = refl
 id_back Right None = refl
-id_back Right (Station n) = refl
+id_back Right (Some n) = refl
 
-pub variable_station : (d : Side) (n : ℕ) → variable d (Station n) ≡ process n
+pub variable_station : (d : Side) (n : ℕ) → variable d (Some n) ≡ process n
 unfolding left_id right_id
 variable_station Left n = refl
 variable_station Right n = refl
 
-neighbour_of_lem : (n : ℕ) → neighbour_of (process n) ≡ Station n
+neighbour_of_lem : (n : ℕ) → neighbour_of (process n) ≡ Some n
 unfolding neighbour_of
 neighbour_of_lem n = refl
 
 become : (d : Side) (n : ℕ) (g : Marks) (b : List Message) (X Y : Id) (sent : List Send)
-    → node_of (facing d n g b X Y sent) ≡ some (node (station d n g (neighbour_of X) (neighbour_of Y)) b)
+    → node_of (facing d n g b X Y sent) ≡ Some (node (station d n g (neighbour_of X) (neighbour_of Y)) b)
 unfolding node_of
 become Left n g b X Y sent = refl
 become Right n g b X Y sent = refl
@@ -57,7 +56,7 @@ become Right n g b X Y sent = refl
 -- process v has become the station of reaction r, with bag b, and has sent what the rules send
 pub record Matches (b : List Message) (v : Process) (r : Reaction) : Type 0 where
   pub sent : v.sent ≡ r.sends
-  pub node : node_of v ≡ some (node r.station b)
+  pub node : node_of v ≡ Some (node r.station b)
 
 matches : (d : Side) (n : ℕ) (g : Marks) (b : List Message) (X Y : Id) (k o : Neighbour) (l : List Send) {v : Process} {r : Reaction} → neighbour_of X ≡ k → neighbour_of Y ≡ o
     → v ≡ facing d n g b X Y l → r ≡ record { station = station d n g k o; sends = l } → Matches b v r
@@ -125,12 +124,12 @@ module _ (n q : ℕ) where
   idle_near Left X h = rw (le-ltb q n h) (and-false (less X (process q)))
   idle_near Right X h = rw (le-ltb n q h)
 
-  idle_far : (d : Side) (k : Neighbour) → NotBeyond d n q → ((r : ℕ) → k ≡ Station r → Beyond d n r) → far q d (variable d k) ≡ false
+  idle_far : (d : Side) (k : Neighbour) → NotBeyond d n q → ((r : ℕ) → k ≡ Some r → Beyond d n r) → far q d (variable d k) ≡ false
   unfolding far less left_id right_id
   idle_far Left None h s = refl
-  idle_far Left (Station r) h s = le-ltb q r (omega (arith, s r refl))
+  idle_far Left (Some r) h s = le-ltb q r (omega (arith, s r refl))
   idle_far Right None h s = refl
-  idle_far Right (Station r) h s = le-ltb r q (omega (arith, s r refl))
+  idle_far Right (Some r) h s = le-ltb r q (omega (arith, s r refl))
 
   -- on the side on which q lies
   no_neighbour : (d : Side) → Beyond d n q → (near q d n (variable d None) ≡ true) × (far q d (variable d None) ≡ false) × (mail (Intro (variable d None)) (process q) ≡ [])
@@ -154,13 +153,13 @@ module _ (n q : ℕ) where
   rule Left g k o h = rw (ne_eqb q n (λ e. omega arith), le-ltb n q (omega arith))
   rule Right g k o h = rw (ne_eqb q n (λ e. omega arith), lt-ltb n q h)
 
-  with_neighbour_lem : (d : Side) (g : Marks) (k o : Neighbour) → with_neighbour d (Station q) (station d n g k o) ≡ station d n g (Station q) o
+  with_neighbour_lem : (d : Side) (g : Marks) (k o : Neighbour) → with_neighbour d (Some q) (station d n g k o) ≡ station d n g (Some q) o
   unfolding with_neighbour
   with_neighbour_lem Left g k o = refl
   with_neighbour_lem Right g k o = refl
 
   -- the other side stays idle, so the figure does what one side does
-  works : (d : Side) (g : Marks) (b : List Message) (X Z : Id) (o : Neighbour) (l : List Send) → NotBeyond (opposite d) n q → ((r : ℕ) → o ≡ Station r → Beyond (opposite d) n r)
+  works : (d : Side) (g : Marks) (b : List Message) (X Z : Id) (o : Neighbour) (l : List Send) → NotBeyond (opposite d) n q → ((r : ℕ) → o ≡ Some r → Beyond (opposite d) n r)
       → half q d (facing d n g b X (variable (opposite d) o) []) ≡ facing d n g b Z (variable (opposite d) o) l
       → introduce (always (process q)) (facing d n g b X (variable (opposite d) o) []) ≡ facing d n g b Z (variable (opposite d) o) l
   works Left g b X Z o l h s e =
@@ -174,7 +173,7 @@ module _ (n q : ℕ) where
   beyond_not Right h = omega arith
 
 -- Station n handles an introduction of q: k is its neighbour on side d, o the other one.
-module _ (n : ℕ) (g : Marks) (b : List Message) (q : ℕ) (d : Side) (o : Neighbour) (s : (r : ℕ) → o ≡ Station r → Beyond (opposite d) n r) where
+module _ (n : ℕ) (g : Marks) (b : List Message) (q : ℕ) (d : Side) (o : Neighbour) (s : (r : ℕ) → o ≡ Some r → Beyond (opposite d) n r) where
   Handled : Neighbour → Type 0
   Handled k = Matches b (introduce (always (process q)) (facing d n g b (variable d k) (variable (opposite d) o) [])) (introduced (station d n g k o) q)
 
@@ -182,30 +181,30 @@ module _ (n : ℕ) (g : Marks) (b : List Message) (q : ℕ) (d : Side) (o : Neig
   unfolding Handled meet mail
   goes None h =
       let w = no_neighbour n q d h in
-      matches d n g b (process q) (variable (opposite d) o) (Station q) o [] (neighbour_of_lem q) (id_back (opposite d) o)
+      matches d n g b (process q) (variable (opposite d) o) (Some q) o [] (neighbour_of_lem q) (id_back (opposite d) o)
       (works n q d g b (variable d None) (process q) o [] (beyond_not n q d h) s (half_near q n g b (variable d None) (variable (opposite d) o) d w.0 w.1 ∙ rw w.2))
       (rule n q d g None o h ∙ rw (with_neighbour_lem n q d g None o))
-  goes (Station r) h = rw (variable_station d r) (go (beyond d q r) refl (eqb q r) refl)
+  goes (Some r) h = rw (variable_station d r) (go (beyond d q r) refl (eqb q r) refl)
     where
       go : (t : Bool) → beyond d q r ≡ t → (u : Bool) → eqb q r ≡ u
-          → Matches b (introduce (always (process q)) (facing d n g b (process r) (variable (opposite d) o) [])) (introduced (station d n g (Station r) o) q)
+          → Matches b (introduce (always (process q)) (facing d n g b (process r) (variable (opposite d) o) [])) (introduced (station d n g (Some r) o) q)
       go true e u f =
           let w = far_is n q d r (λ z. beyond_other d q r (beyond_true d q r e) (sym z)) ∙ ap not e in
-          matches d n g b (process q) (variable (opposite d) o) (Station q) o (one q (introduction r)) (neighbour_of_lem q) (id_back (opposite d) o)
+          matches d n g b (process q) (variable (opposite d) o) (Some q) o (one q (introduction r)) (neighbour_of_lem q) (id_back (opposite d) o)
           (works n q d g b (process r) (process q) o (one q (introduction r)) (beyond_not n q d h) s
           (half_near q n g b (process r) (variable (opposite d) o) d (near_is n q d r h ∙ e) w))
-          (rule n q d g (Station r) o h ∙ rw (e, with_neighbour_lem n q d g (Station r) o))
+          (rule n q d g (Some r) o h ∙ rw (e, with_neighbour_lem n q d g (Some r) o))
       go false e true f =
           let w = subst (λ (k : ℕ). far q d (process k) ≡ false) (eqb-true q r f) (far_self q d) in
-          matches d n g b (process r) (variable (opposite d) o) (Station r) o [] (neighbour_of_lem r) (id_back (opposite d) o)
+          matches d n g b (process r) (variable (opposite d) o) (Some r) o [] (neighbour_of_lem r) (id_back (opposite d) o)
           (works n q d g b (process r) (process r) o [] (beyond_not n q d h) s (half_idle q n g b (process r) (variable (opposite d) o) d [] (near_is n q d r h ∙ e) w))
-          (rule n q d g (Station r) o h ∙ rw (e, f))
+          (rule n q d g (Some r) o h ∙ rw (e, f))
       go false e false f =
           let w = far_is n q d r (eqb-false q r f) ∙ ap not e in
-          matches d n g b (process r) (variable (opposite d) o) (Station r) o (one r (introduction q)) (neighbour_of_lem r) (id_back (opposite d) o)
+          matches d n g b (process r) (variable (opposite d) o) (Some r) o (one r (introduction q)) (neighbour_of_lem r) (id_back (opposite d) o)
           (works n q d g b (process r) (process r) o (one r (introduction q)) (beyond_not n q d h) s
           (half_far q n g b (process r) (variable (opposite d) o) d (near_is n q d r h ∙ e) w))
-          (rule n q d g (Station r) o h ∙ rw (e, f))
+          (rule n q d g (Some r) o h ∙ rw (e, f))
 
 -- The same for the messages that ask for a removal: the neighbour on side d is dropped.
 drop : Side → Command
@@ -216,16 +215,16 @@ module _ (n : ℕ) (g : Marks) (b : List Message) where
   drops : (d : Side) (k o : Neighbour) → drop d (facing d n g b (variable d k) (variable (opposite d) o) []) ≡ facing d n g b (variable d None) (variable (opposite d) o) (send_to k (introduction n))
   unfolding drop ◌⨾◌ send◌to◌ left:=◌ right:=◌ always intro p left right mail left_id right_id send_to
   drops Left None o = refl
-  drops Left (Station r) o = refl
+  drops Left (Some r) o = refl
   drops Right None o = refl
-  drops Right (Station r) o = refl
+  drops Right (Some r) o = refl
 
   drop_rule : (d : Side) (k o : Neighbour) → drop_neighbour d (station d n g k o) k ≡ record { station = station d n g None o; sends = send_to k (introduction n) }
   unfolding drop_neighbour send_to with_neighbour
   drop_rule Left None o = refl
-  drop_rule Left (Station r) o = refl
+  drop_rule Left (Some r) o = refl
   drop_rule Right None o = refl
-  drop_rule Right (Station r) o = refl
+  drop_rule Right (Some r) o = refl
 
   dropped : (d : Side) (k o : Neighbour) → Matches b (drop d (facing d n g b (variable d k) (variable (opposite d) o) [])) (drop_neighbour d (station d n g k o) k)
   dropped d k o =

@@ -2,6 +2,8 @@
 -- that stops at a refusal; in one that comes to its end every step was done; machines that answer alike have runs that end alike; and a run
 -- goes on with the readings that are left.
 use mathlib.Core.Path.{◌≡◌, refl, sym, ◌∙◌, ap, subst}
+use Rattle.std.specs.Prelude.{Ok, Err}
+use Rattle.line.specs.Types.{Ending, Reading}
 use mathlib.Core.Logic.{⊎_elim}
 use mathlib.Core.List.Memᴰ
 use mathlib.Core.List.{List, [], ◌∷◌, map}
@@ -14,10 +16,6 @@ use lib.ListN.{take}
 use Rattle.lists.specs.Places.{range}
 use Rattle.lists.proofs.Elements.{range_one}
 use Rattle.line.specs.declared.Refusal.{Refusal}
-use Rattle.line.specs.declared.Reading.{Reading}
-use Rattle.line.specs.declared.Reading.TheVariants.{Step, Refused}
-use Rattle.line.specs.declared.Ending.{Ending}
-use Rattle.line.specs.declared.Ending.TheVariants.{Complete, Stopped}
 use Rattle.line.specs.Answer.{Answer, refused, done}
 use Rattle.line.specs.Node.{Line}
 use Rattle.line.specs.Run.{try, Run, run, Leads, EndsAt, IsRun}
@@ -39,10 +37,10 @@ pub record Course (S : Type 0) : Type 0 where
 
 module _ {S : Type 0} where
   abbrev pub completed : S → Course S
-  completed s = record { ending = Complete; steps = 0; state = s }
+  completed s = record { ending = Ok tt; steps = 0; state = s }
 
   abbrev pub stopped : S → Refusal → Course S
-  stopped s r = record { ending = Stopped r; steps = 0; state = s }
+  stopped s r = record { ending = Err r; steps = 0; state = s }
 
   -- one step more was done before
   abbrev pub after_one : Course S → Course S
@@ -100,9 +98,9 @@ module _ {S : Type 0} (f : Machine S) where
     pub does : f before x ≡ done after
 
   -- and in a course that comes to its end each reading was done, in such a state
-  pub course_does : (P : S → Type 0) (l : List Reading) → KeptBy P l → (s : S) → P s → (course s l).ending ≡ Complete → (x : Reading) → Member x l → DoneIn P x
+  pub course_does : (P : S → Type 0) (l : List Reading) → KeptBy P l → (s : S) → P s → (course s l).ending ≡ Ok tt → (x : Reading) → Member x l → DoneIn P x
   course_does P l kept s =
-      course_induct (λ s l c. KeptBy P l → P s → c.ending ≡ Complete → (x : Reading) → Member x l → DoneIn P x) (λ s k p e x m. absurd (Memᴰ.not-nil m))
+      course_induct (λ s l c. KeptBy P l → P s → c.ending ≡ Ok tt → (x : Reading) → Member x l → DoneIn P x) (λ s k p e x m. absurd (Memᴰ.not-nil m))
       (λ s x l r e k p z. absurd (let w : ◌≡◌ {A = ℕ} 0 1 = cc in omega arith))
       (λ s t x l c e h k p z y m.
       ⊎_elim (λ i. record { before = s; after = t; holds = p; does = rw i e })
@@ -137,7 +135,7 @@ module _ {S T : Type 0} (R : S → T → Type 0) where
       (λ s u x l c e i t h. rw (course_next g t x l) (more u l c i t (g t x) (rw e at (alike s t x h)))) l s
     where
       stop : (s : S) (l : List Reading) (r : Refusal) (t : T) → R s t → (a : Answer T) → AnswersAlike (refused r) a → EndAlike (stopped s r) (onward g t l a)
-      stop s l r t h (refused q) e = record { ending = ap Stopped e; steps = refl; states = h }
+      stop s l r t h (refused q) e = record { ending = ap Err e; steps = refl; states = h }
       stop s l r t h (done u) e = absurd e
 
       more : (s : S) (l : List Reading) (c : Course S) → ((t : T) → R s t → EndAlike c (course g t l))
@@ -148,7 +146,7 @@ module _ {S T : Type 0} (R : S → T → Type 0) where
 -- Runs are the courses of the machine `try`.
 -- what a run gives, by its first step
 abbrev pub next : Line → List Reading → Answer Line → Run
-next line l (refused r) = record { ending = Stopped r; steps = 0; line = line }
+next line l (refused r) = record { ending = Err r; steps = 0; line = line }
 next line l (done after) = record { ending = (run after l).ending; steps = suc (run after l).steps; line = (run after l).line }
 
 pub run_next : (line : Line) (x : Reading) (l : List Reading) → run line (x ∷ l) ≡ next line l (try line x)
@@ -173,7 +171,7 @@ pub run_keeps : (P : Line → Type 0) (l : List Reading) → KeptBy try P l → 
 run_keeps P l kept line p = rw (run_course l line) (course_keeps try P l kept line p)
 
 -- and in a run that comes to its end each reading was done
-pub run_does : (P : Line → Type 0) (l : List Reading) → KeptBy try P l → (line : Line) → P line → (run line l).ending ≡ Complete
+pub run_does : (P : Line → Type 0) (l : List Reading) → KeptBy try P l → (line : Line) → P line → (run line l).ending ≡ Ok tt
     → (x : Reading) → Member x l → DoneIn try P x
 run_does P l kept line p e = course_does try P l kept line p (rw (run_course l line) at e)
 
@@ -209,8 +207,8 @@ then r t = record {
 
 try_result : (line : Line) (x : Reading) {after : Line} → Accepted line → try line x ≡ done after → Result line after
 unfolding try
-try_result line (Step x) ok e = step_result line x ok e
-try_result line (Refused r) ok e = refused_done e
+try_result line (Ok x) ok e = step_result line x ok e
+try_result line (Err r) ok e = refused_done e
 
 run_result : (l : List Reading) (line : Line) → Accepted line → Result line (run line l).line
 run_result l line ok =
@@ -239,8 +237,8 @@ ended e k line = record { ending = e; steps = k; line = line }
 
 -- one reading more in front
 ends_later : (x : Reading) (l : List Reading) (n : ℕ) (line : Line) (e : Ending) → EndsAt l n line e → EndsAt (x ∷ l) (suc n) line e
-ends_later x l n line Complete h = ap suc h
-ends_later x l n line (Stopped r) h = h
+ends_later x l n line (Ok _) h = ap suc h
+ends_later x l n line (Err r) h = h
 
 is_run : (l : List Reading) (line : Line) → IsRun line l (run line l)
 is_run l line =
@@ -250,15 +248,15 @@ is_run l line =
     (λ line after x l c e h. record { leads = (after, e, h.leads); ends = ends_later x l c.steps c.state c.ending h.ends }) l line)
 
 ends_sooner : (x : Reading) (l : List Reading) (n : ℕ) (line : Line) (e : Ending) → EndsAt (x ∷ l) (suc n) line e → EndsAt l n line e
-ends_sooner x l n line Complete h = cc
-ends_sooner x l n line (Stopped r) h = h
+ends_sooner x l n line (Ok _) h = cc
+ends_sooner x l n line (Err r) h = h
 
 at_once : (l : List Reading) (line : Line) (e : Ending) → EndsAt l 0 line e → run line l ≡ ended e 0 line
 unfolding run
-at_once [] line Complete h = refl
-at_once [] line (Stopped r) h = absurd (let z : ◌≡◌ {A = ℕ} 0 1 = cc in omega arith)
-at_once (x ∷ l) line Complete h = absurd (omega arith)
-at_once (x ∷ l) line (Stopped r) h =
+at_once [] line (Ok _) h = refl
+at_once [] line (Err r) h = absurd (let z : ◌≡◌ {A = ℕ} 0 1 = cc in omega arith)
+at_once (x ∷ l) line (Ok _) h = absurd (omega arith)
+at_once (x ∷ l) line (Err r) h =
     let z : x ≡ h.0 = cc in
     let e : try line x ≡ refused r = rw z h.3 in
     run_next line x l ∙ ap (next line l) e
@@ -266,8 +264,8 @@ at_once (x ∷ l) line (Stopped r) h =
 only_run : (l : List Reading) (line : Line) (n : ℕ) (after : Line) (e : Ending) → Leads (take n l) line after → EndsAt l n after e → run line l ≡ ended e n after
 unfolding run
 only_run l line zero after e h k = rw (← h) (at_once l line e (rw (← h) at k))
-only_run [] line (suc n) after Complete h k = absurd (omega arith)
-only_run [] line (suc n) after (Stopped r) h k = absurd (let z : ◌≡◌ {A = ℕ} 0 1 = cc in omega arith)
+only_run [] line (suc n) after (Ok _) h k = absurd (omega arith)
+only_run [] line (suc n) after (Err r) h k = absurd (let z : ◌≡◌ {A = ℕ} 0 1 = cc in omega arith)
 only_run (x ∷ l) line (suc n) after e h k =
     run_next line x l ∙ ap (next line l) h.1
     ∙ ap (λ (r : Run). record { ending = r.ending; steps = suc r.steps; line = r.line }) (only_run l h.0 n after e h.2 (ends_sooner x l n after e k))
@@ -285,18 +283,18 @@ run_starts r = ap (λ (k : ℕ). record { ending = r.ending; steps = k; line = r
 
 module _ {r : Run} (k : ℕ) (line : Line) {l : List Reading} (same : r ≡ ahead k (run line l)) where
   -- none is left
-  pub run_ends : l ≡ [] → ended Complete k line ≡ r
+  pub run_ends : l ≡ [] → ended (Ok tt) k line ≡ r
   unfolding ahead run
-  run_ends e = sym (same ∙ rw e (ap (λ (j : ℕ). ended Complete j line) (let z : k + 0 ≡ k = omega arith in z)))
+  run_ends e = sym (same ∙ rw e (ap (λ (j : ℕ). ended (Ok tt) j line) (let z : k + 0 ≡ k = omega arith in z)))
 
   module _ {x : Reading} {rest : List Reading} (first : l ≡ x ∷ rest) where
     tries : (a : Answer Line) → try line x ≡ a → run line l ≡ next line rest a
     tries a e = ap (run line) first ∙ run_next line x rest ∙ ap (next line rest) e
 
     -- the next step is refused
-    pub run_stops : (f : Refusal) → try line x ≡ refused f → ended (Stopped f) k line ≡ r
+    pub run_stops : (f : Refusal) → try line x ≡ refused f → ended (Err f) k line ≡ r
     unfolding ahead
-    run_stops f e = sym (same ∙ ap (ahead k) (tries (refused f) e) ∙ ap (λ (j : ℕ). ended (Stopped f) j line) (let z : k + 0 ≡ k = omega arith in z))
+    run_stops f e = sym (same ∙ ap (ahead k) (tries (refused f) e) ∙ ap (λ (j : ℕ). ended (Err f) j line) (let z : k + 0 ≡ k = omega arith in z))
 
     -- the next step is done
     pub run_goes : (after : Line) → try line x ≡ done after → r ≡ ahead (k + 1) (run after rest)
@@ -315,11 +313,11 @@ module _ (read : ℕ → Reading) (total : ℕ) where
   readings_start line = let e : total - 0 ≡ total = omega arith in rw e (run_starts (run line (map read (range 0 total))))
 
   module _ {r : Run} (k : ℕ) (line : Line) (same : r ≡ ahead k (run line (readings_from k))) where
-    pub readings_end : total ≤ k → ended Complete k line ≡ r
+    pub readings_end : total ≤ k → ended (Ok tt) k line ≡ r
     unfolding range
     readings_end h = let e : total - k ≡ 0 = omega arith in run_ends k line same (rw e)
 
-    pub readings_stop : k < total → (f : Refusal) → try line (read k) ≡ refused f → ended (Stopped f) k line ≡ r
+    pub readings_stop : k < total → (f : Refusal) → try line (read k) ≡ refused f → ended (Err f) k line ≡ r
     readings_stop h = run_stops k line same (ap (map read) (range_one k total h))
 
     pub readings_go : k < total → (after : Line) → try line (read k) ≡ done after → r ≡ ahead (k + 1) (run after (readings_from (k + 1)))

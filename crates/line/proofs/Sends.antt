@@ -1,5 +1,7 @@
 -- No step sends to its own station, and no step sends two messages to one station (document 01, "What a step does at station p").
 use mathlib.Core.Path.{◌≡◌, refl, sym, ◌∙◌, ap, subst}
+use Rattle.std.specs.Prelude.{Some, None}
+use Rattle.line.specs.Types.{Leave, Neighbour}
 use mathlib.Core.Logic.{◌≢◌, ⊎_elim}
 use mathlib.Core.Bool.{Bool, true, false, cond}
 use mathlib.Core.List.Memᴰ
@@ -9,12 +11,9 @@ use Prim.Native.Nat.{ℕ}
 use native.Mathlib.Omega.{arith}
 use lib.Dec.{eqb}
 use borrow.Author.Tests.{eqb-false}
-use Rattle.line.specs.declared.Neighbour.{Neighbour}
-use Rattle.line.specs.declared.Neighbour.TheVariants.{None, Station}
 use Rattle.line.specs.declared.Content.{Content}
 use Rattle.line.specs.declared.Content.TheVariants.{Introduction, RemoveLeft, RemoveRight}
 use Rattle.line.specs.declared.Message.{Message}
-use Rattle.line.specs.declared.Leave.{Leave}
 use Rattle.line.specs.declared.Refusal.TheVariants.{NotInBag, Staying}
 use Rattle.line.specs.declared.Side.{Side}
 use Rattle.line.specs.declared.Side.TheVariants.{Left, Right}
@@ -44,15 +43,15 @@ clear_one r c h = record {
 }
 
 -- a message to each neighbour that there is: where it goes, and what it is
-pub sent_to : (k : Neighbour) (c : Message) {m : Send} → Member m (send_to k c) → k ≡ Station m.to
+pub sent_to : (k : Neighbour) (c : Message) {m : Send} → Member m (send_to k c) → k ≡ Some m.to
 unfolding send_to
 sent_to None c h = absurd (Memᴰ.not-nil h)
-sent_to (Station r) c h = ap Station (sym (ap (λ (z : Send). z.to) (Memᴰ.eq_of_singleton h)))
+sent_to (Some r) c h = ap Some (sym (ap (λ (z : Send). z.to) (Memᴰ.eq_of_singleton h)))
 
 pub sent_message : (k : Neighbour) (c : Message) {m : Send} → Member m (send_to k c) → m.message ≡ c
 unfolding send_to
 sent_message None c h = absurd (Memᴰ.not-nil h)
-sent_message (Station r) c h = ap (λ (z : Send). z.message) (Memᴰ.eq_of_singleton h)
+sent_message (Some r) c h = ap (λ (z : Send). z.message) (Memᴰ.eq_of_singleton h)
 
 clear_two : (s : Node) → Sided s → {a b : Neighbour} → s.station.left ≡ a → s.station.right ≡ b → (c e : Message) → Clear (number s) (send_to a c ++ send_to b e)
 unfolding send_to
@@ -64,9 +63,9 @@ clear_two s ok {a} {b} p q c e = record {
   where
     apart : (a b : Neighbour) → s.station.left ≡ a → s.station.right ≡ b → Apart (send_to a c ++ send_to b e)
     apart None None p q = tt
-    apart None (Station r) p q = (λ k m. absurd (Memᴰ.not-nil m), tt)
-    apart (Station l) None p q = (λ k m. absurd (Memᴰ.not-nil m), tt)
-    apart (Station l) (Station r) p q =
+    apart None (Some r) p q = (λ k m. absurd (Memᴰ.not-nil m), tt)
+    apart (Some l) None p q = (λ k m. absurd (Memᴰ.not-nil m), tt)
+    apart (Some l) (Some r) p q =
         (λ k m z. omega (arith, ok Left l p, ok Right r q, z, ap (λ (y : Send). y.to) (Memᴰ.eq_of_singleton m)), (λ k m. absurd (Memᴰ.not-nil m), tt))
 
 module _ (s : Node) (ok : Sided s) where
@@ -77,17 +76,17 @@ module _ (s : Node) (ok : Sided s) where
   clear_exit : (a b : Neighbour) → s.station.left ≡ a → s.station.right ≡ b → Clear (number s) (introduce_both a b)
   unfolding introduce_both send_to
   clear_exit None b p q = clear_none
-  clear_exit (Station l) None p q = clear_none
-  clear_exit (Station l) (Station r) p q = clear_two s ok p q (introduction r) (introduction l)
+  clear_exit (Some l) None p q = clear_none
+  clear_exit (Some l) (Some r) p q = clear_two s ok p q (introduction r) (introduction l)
 
   clear_meet : (d : Side) (q : ℕ) (k : Neighbour) → neighbour d s.station ≡ k → q ≢ number s → Clear (number s) (meet d s.station q k).sends
   unfolding meet
   clear_meet d q None e h = clear_none
-  clear_meet d q (Station r) e h = go (beyond d q r) (eqb q r)
+  clear_meet d q (Some r) e h = go (beyond d q r) (eqb q r)
     where
       go : (t u : Bool)
           → Clear (number s)
-          (cond t (record { station = with_neighbour d (Station q) s.station; sends = send q (introduction r) })
+          (cond t (record { station = with_neighbour d (Some q) s.station; sends = send q (introduction r) })
           (cond u (unchanged s.station) (record { station = s.station; sends = send r (introduction q) }))).sends
       go true u = clear_one q (introduction r) h
       go false true = clear_none
@@ -104,7 +103,7 @@ module _ (s : Node) (ok : Sided s) where
   clear_dropped : (d : Side) (k : Neighbour) → neighbour d s.station ≡ k → Clear (number s) (drop_neighbour d s.station k).sends
   unfolding drop_neighbour
   clear_dropped d None e = clear_none
-  clear_dropped d (Station r) e = clear_one r (introduction (number s)) (beyond_other d (number s) r (ok d r e))
+  clear_dropped d (Some r) e = clear_one r (introduction (number s)) (beyond_other d (number s) r (ok d r e))
 
   clear_removed : (d : Side) → Clear (number s) (removed s.station d).sends
   unfolding removed

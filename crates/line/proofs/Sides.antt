@@ -1,5 +1,7 @@
 -- Laws of the two sides, each said once over a side.
 use mathlib.Core.Path.{◌≡◌, refl}
+use Rattle.std.specs.Prelude.{Some, None}
+use Rattle.line.specs.Types.{Neighbour}
 use mathlib.Core.Logic.{◌≢◌, ◌⊎◌, inl, inr}
 use mathlib.Core.Bool.{Bool, true, false, cond}
 use mathlib.Core.List.{List}
@@ -7,8 +9,6 @@ use Prim.Native.Nat.{ℕ}
 use native.Mathlib.Omega.{arith}
 use lib.Dec.{ltb}
 use borrow.Author.Tests.{ltb-true, ltb-false, lt-ltb}
-use Rattle.line.specs.declared.Neighbour.{Neighbour}
-use Rattle.line.specs.declared.Neighbour.TheVariants.{None, Station}
 use Rattle.line.specs.declared.Message.{Message}
 use Rattle.line.specs.declared.Station as declared
 use Rattle.line.specs.declared.Side.{Side}
@@ -17,10 +17,10 @@ use Rattle.line.specs.Node.{Node, Beyond, beyond, side_of, neighbour, with_neigh
 use Rattle.line.specs.Links.{Linked, by_neighbour, by_introduction}
 use Rattle.line.specs.Accepted.{Sided}
 
-pub station_inj : {a b : ℕ} → Station a ≡ Station b → a ≡ b
+pub station_inj : {a b : ℕ} → Some a ≡ Some b → a ≡ b
 station_inj e = cc
 
-pub none_station : {a : ℕ} {C : Type 0} → None ≡ Station a → C
+pub none_station : {a : ℕ} {C : Type 0} → None ≡ Some a → C
 none_station e = absurd (let z : ◌≡◌ {A = ℕ} 0 1 = cc in omega arith)
 
 -- by the side that was told
@@ -72,7 +72,7 @@ abbrev pub node : declared.Station → List Message → Node
 node p b = record { station = p; bag = b }
 
 -- the links after: the new neighbour, and old ones
-pub changed_links : (d : Side) (k : Neighbour) (p : declared.Station) (b : List Message) {y : ℕ} → Linked (node (with_neighbour d k p) b) y → (k ≡ Station y) ⊎ Linked (node p b) y
+pub changed_links : (d : Side) (k : Neighbour) (p : declared.Station) (b : List Message) {y : ℕ} → Linked (node (with_neighbour d k p) b) y → (k ≡ Some y) ⊎ Linked (node p b) y
 unfolding with_neighbour
 changed_links Left k p b (by_neighbour Left e) = inl e
 changed_links Left k p b (by_neighbour Right e) = inr (by_neighbour Right e)
@@ -82,7 +82,7 @@ changed_links Right k p b (by_neighbour Left e) = inr (by_neighbour Left e)
 changed_links Right k p b (by_introduction m) = inr (by_introduction m)
 
 -- the links before: the old neighbour, and those that stay
-pub links_changed : (d : Side) (k : Neighbour) (p : declared.Station) (b : List Message) {y : ℕ} → Linked (node p b) y → (neighbour d p ≡ Station y) ⊎ Linked (node (with_neighbour d k p) b) y
+pub links_changed : (d : Side) (k : Neighbour) (p : declared.Station) (b : List Message) {y : ℕ} → Linked (node p b) y → (neighbour d p ≡ Some y) ⊎ Linked (node (with_neighbour d k p) b) y
 unfolding with_neighbour
 links_changed Left k p b (by_neighbour Left e) = inl e
 links_changed Left k p b (by_neighbour Right e) = inr (by_neighbour Right e)
@@ -91,7 +91,7 @@ links_changed Right k p b (by_neighbour Right e) = inl e
 links_changed Right k p b (by_neighbour Left e) = inr (by_neighbour Left e)
 links_changed Right k p b (by_introduction m) = inr (by_introduction m)
 
-pub changed_sided : (d : Side) (k : Neighbour) (p : declared.Station) (b : List Message) → Sided (node p b) → ((q : ℕ) → k ≡ Station q → Beyond d p.number q)
+pub changed_sided : (d : Side) (k : Neighbour) (p : declared.Station) (b : List Message) → Sided (node p b) → ((q : ℕ) → k ≡ Some q → Beyond d p.number q)
     → Sided (node (with_neighbour d k p) b)
 unfolding with_neighbour
 changed_sided Left k p b h f Left q e = f q e

@@ -1,8 +1,8 @@
 -- A step on the whole line: it stays accepted and in written order, and no two stations that stay are cut apart or newly joined.
 use mathlib.Core.Path.{◌≡◌, refl, sym, ◌∙◌, ap, subst}
+use Rattle.std.specs.Prelude.{Option, Some, None, Ok}
 use mathlib.Core.Logic.{◌≢◌, ◌⊎◌, inl, inr, ⊎_elim, by_cases}
 use mathlib.Core.Bool.{true, cond}
-use mathlib.Core.Option.{Option, none, some}
 use mathlib.Core.List.Memᴰ
 use mathlib.Core.List.{List, [], ◌∷◌, map}
 use mathlib.Core.List.Memᴰ.{head as here}
@@ -15,7 +15,6 @@ use lib.Dec.{eqb}
 use borrow.Author.Tests.{eq-eqb, ne_eqb}
 use lib.ListN.{length}
 use Rattle.line.specs.declared.Message.{Message}
-use Rattle.line.specs.declared.Leave.TheVariants.{May}
 use Rattle.line.specs.declared.Refusal.TheVariants.{Full}
 use Rattle.line.specs.declared.Step as declared
 use Rattle.lists.specs.Lists.{all, Ordered}
@@ -343,10 +342,10 @@ module _ (line : Line) (ok : Accepted line) (s : Node) (there_is : Member s line
     }
 
 -- the room that a receiver has is not touched by what happens at the sender
-replaced_room : (n : ℕ) (o : Option Node) (line : Line) (k : Send) → ((u : Node) → o ≡ some u → number u ≡ n) → k.to ≢ n → Room line k → Room (replace n o line) k
+replaced_room : (n : ℕ) (o : Option Node) (line : Line) (k : Send) → ((u : Node) → o ≡ Some u → number u ≡ n) → k.to ≢ n → Room line k → Room (replace n o line) k
 unfolding replace
-replaced_room n none line k h z r t m e = r t (without_mem n line m).0 e
-replaced_room n (some u) line k h z r t m e =
+replaced_room n None line k h z r t m e = r t (without_mem n line m).0 e
+replaced_room n (Some u) line k h z r t m e =
     ⊎_elim (λ w. r t w.0 e) (λ w. absurd (z (sym e ∙ ap number w.3 ∙ h u refl))) (changed_mem n (λ (t : Node). u) line m)
 
 -- A step that was done, in its parts: the station found, its effect, the room of every receiver, and what came of it.
@@ -374,23 +373,23 @@ step_result line x {after} ok e =
     let m = (found x.station line v.finds).0 in
     let sided = ok.sided s m in
     subst (Result line) v.result
-    (go s m v.effect.after v.effect.sends (act_links line s sided (ok.small s m) (leave_of line s) (leave_tested line s May).0 x.action v.acts)
+    (go s m v.effect.after v.effect.sends (act_links line s sided (ok.small s m) (leave_of line s) (leave_tested line s (Ok tt)).0 x.action v.acts)
     (act_keeps (leave_of line s) s x.action v.acts) (clear_act s sided (leave_of line s) x.action v.acts) (λ k i. has_room_lem k line (all_true (has_room line) v.room i)))
   where
     go : (s : Node) → Member s line → (o : Option Node) (l : List Send) → LinksKept line (number s) (Linked s) o l → KeepsIfThere s o → Clear (number s) l → ((k : Send) → Member k l → Room line k)
         → Result line (send_all l (replace (number s) o line))
-    go s m none l k g c r =
+    go s m None l k g c r =
         leave_result line ok s m l k (send_all l (without (number s) line))
-        (sent_all l (without (number s) line) c.once (λ i j. replaced_room (number s) none line i (λ u z. absurd (none_some z)) (c.away i j) (r i j)))
+        (sent_all l (without (number s) line) c.once (λ i j. replaced_room (number s) None line i (λ u z. absurd (none_some z)) (c.away i j) (r i j)))
       where
-        none_some : {u : Node} → none ≡ some u → ⊥
+        none_some : {u : Node} → None ≡ Some u → ⊥
         none_some z = let w : ◌≡◌ {A = ℕ} 0 1 = cc in omega arith
-    go s m (some u) l k g c r =
+    go s m (Some u) l k g c r =
         stay_result line ok s m u l k g (send_all l (map (change (number s) (λ (t : Node). u)) line))
         (sent_all l (map (change (number s) (λ (t : Node). u)) line) c.once
-        (λ i j. replaced_room (number s) (some u) line i (λ v z. rw (← some_inj z) k.named) (c.away i j) (r i j)))
+        (λ i j. replaced_room (number s) (Some u) line i (λ v z. rw (← some_inj z) k.named) (c.away i j) (r i j)))
       where
-        some_inj : {a b : Node} → some a ≡ some b → a ≡ b
+        some_inj : {a b : Node} → Some a ≡ Some b → a ≡ b
         some_inj z = cc
 
 pub step_keeps_accepted : StepKeepsAccepted

@@ -1,5 +1,7 @@
 -- The situations and the further examples hold: each is computed. So are the lines with what is said of their stations.
 use mathlib.Core.Path.{◌≡◌, refl, sym, subst, ap, ◌∙◌}
+use Rattle.std.specs.Prelude.{Ok, Err}
+use Rattle.line.specs.Types.{Leave}
 use mathlib.Core.Logic.{◌↔◌}
 use mathlib.Core.Bool.{Bool, true, false}
 use mathlib.Core.List.Memᴰ
@@ -9,8 +11,6 @@ use lib.Dec.{eqb}
 use borrow.Author.Tests.{eqb-true, eq-eqb}
 use Rattle.lists.specs.Lists.{all, any, insert, remove_first}
 use Rattle.lists.proofs.Lists.{clash, any_true, true_any}
-use Rattle.line.specs.declared.Leave.{Leave}
-use Rattle.line.specs.declared.Leave.TheVariants.{May, MayNot}
 use Rattle.line.specs.Answer.{◌>>=◌, require, unless_held}
 use Rattle.line.specs.Message.{removal, same, precedes}
 use Rattle.line.specs.Marks.{marks_hold}
@@ -49,15 +49,15 @@ examples_hold = each Holds (record { accepts = refl; answers = refl; counts = re
 
 -- whether a station may leave, as a test
 abbrev is_may : Leave → Bool
-is_may May = true
-is_may (MayNot why) = false
+is_may (Ok _) = true
+is_may (Err why) = false
 
 may_tested : (line : Line) (s : Node) → (is_may (leave_of line s) ≡ true) ↔ Nidec line s
-may_tested line s = (λ e. (leave_tested line s May).0 (go (leave_of line s) e), λ n. ap is_may ((leave_tested line s May).1 n))
+may_tested line s = (λ e. (leave_tested line s (Ok tt)).0 (go (leave_of line s) e), λ n. ap is_may ((leave_tested line s (Ok tt)).1 n))
   where
-    go : (l : Leave) → is_may l ≡ true → l ≡ May
-    go May e = refl
-    go (MayNot why) e = clash e refl
+    go : (l : Leave) → is_may l ≡ true → l ≡ Ok tt
+    go (Ok _) e = refl
+    go (Err why) e = clash e refl
 
 -- What is computed of a line, and what it says by the claims about the tests.
 record Computed (x : LineExample) : Type 0 where

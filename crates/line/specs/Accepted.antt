@@ -1,9 +1,8 @@
 -- Accepted lines, a term of document 01 ("The numbers a crew may see"): what 2 and 4 to 7 ask of the stations read, in any stored order.
-use Rattle.std.specs.Prelude.{ℕ, ◌≤◌, ◌≡◌, Bool, true, ◌&&◌, eqb, leb, length}
+use Rattle.std.specs.Prelude.{ℕ, ◌≤◌, ◌≡◌, Bool, true, ◌&&◌, eqb, leb, length, Some, None}
+use Rattle.line.specs.Types.{Neighbour}
 use mathlib.Core.List.{Memᴰ as Member}
 use Rattle.lists.specs.Numbers.{Distinct, are_distinct}
-use Rattle.line.specs.declared.Neighbour.{Neighbour}
-use Rattle.line.specs.declared.Neighbour.TheVariants.{None, Station}
 use Rattle.line.specs.declared.Content.{Content}
 use Rattle.line.specs.declared.Content.TheVariants.{Introduction, RemoveLeft, RemoveRight}
 use Rattle.line.specs.declared.Message.{Message}
@@ -17,7 +16,7 @@ use Rattle.line.specs.Links.{Linked}
 
 -- "a left, where there is one, not below its own station, or a right, where there is one, not above it" is refused
 abbrev pub Sided : Node → Type 0
-Sided s = (d : Side) (q : ℕ) → neighbour d s.station ≡ Station q → Beyond d (number s) q
+Sided s = (d : Side) (q : ℕ) → neighbour d s.station ≡ Some q → Beyond d (number s) q
 
 pub record Accepted (line : Line) : Type 0 where
   -- 2: at most 64 blocks
@@ -42,7 +41,7 @@ has_small_bag s = leb (length s.bag) capacity
 
 unfoldable pub lies_beyond : Side → ℕ → Neighbour → Bool
 lies_beyond d p None = true
-lies_beyond d p (Station q) = beyond d p q
+lies_beyond d p (Some q) = beyond d p q
 
 unfoldable pub has_sides : Node → Bool
 has_sides s = lies_beyond Left (number s) s.station.left && lies_beyond Right (number s) s.station.right
@@ -52,7 +51,7 @@ is_present line n = any (λ (s : Node). eqb n (number s)) line
 
 unfoldable pub knows_neighbour : Line → Neighbour → Bool
 knows_neighbour line None = true
-knows_neighbour line (Station q) = is_present line q
+knows_neighbour line (Some q) = is_present line q
 
 unfoldable pub knows_content : Line → Content → Bool
 knows_content line (Introduction q) = is_present line q

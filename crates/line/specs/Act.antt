@@ -1,9 +1,7 @@
 -- What a step does at its own station (document 01, "What a step does at station p").
 -- Nothing here looks beyond the station, its bag and whether it may leave.
-use Rattle.std.specs.Prelude.{ℕ, Bool, true, cond, not, List, [], ◌∷◌, ◌++◌, eqb}
-use Rattle.std.proofs.Math.Option.{Option, none, some}
-use Rattle.line.specs.declared.Neighbour.{Neighbour}
-use Rattle.line.specs.declared.Neighbour.TheVariants.{None, Station}
+use Rattle.std.specs.Prelude.{ℕ, Bool, true, cond, not, List, [], ◌∷◌, ◌++◌, eqb, Option, Some, None}
+use Rattle.line.specs.Types.{Leave, Neighbour}
 use Rattle.line.specs.declared.Content.{Content}
 use Rattle.line.specs.declared.Content.TheVariants.{Introduction, RemoveLeft, RemoveRight}
 use Rattle.line.specs.declared.Message.{Message}
@@ -12,7 +10,6 @@ use Rattle.line.specs.declared.Side.{Side}
 use Rattle.line.specs.declared.Side.TheVariants.{Left, Right}
 use Rattle.line.specs.declared.Action.{Action}
 use Rattle.line.specs.declared.Action.TheVariants.{Timeout, Deliver, Exit}
-use Rattle.line.specs.declared.Leave.{Leave}
 use Rattle.line.specs.declared.Refusal.TheVariants.{NotInBag, Staying}
 use Rattle.line.specs.Answer.{Answer, done, require, unless_held}
 use Rattle.line.specs.Message.{introduction, removal, holds, remove}
@@ -29,7 +26,7 @@ send n m = record { to = n; message = m } ∷ []
 -- "each where there is one"
 unfoldable pub send_to : Neighbour → Message → List Send
 send_to None m = []
-send_to (Station n) m = send n m
+send_to (Some n) m = send n m
 
 -- "Timeout, staying: an introduction of p goes to left and to right, each where there is one."
 -- "Timeout, leaving: a remove-right goes to left and a remove-left to right, each where there is one."
@@ -50,9 +47,9 @@ unchanged p = record { station = p; sends = [] }
 -- "If q is above p: with no right, right becomes q; with q below right, an introduction of the old right goes to q and right
 -- becomes q; with q equal to right, no more; with q above right, the introduction goes on to right. The left side is the mirror image."
 unfoldable pub meet : Side → declared.Station → ℕ → Neighbour → Reaction
-meet d p q None = record { station = with_neighbour d (Station q) p; sends = [] }
-meet d p q (Station r) =
-    cond (beyond d q r) (record { station = with_neighbour d (Station q) p; sends = send q (introduction r) })
+meet d p q None = record { station = with_neighbour d (Some q) p; sends = [] }
+meet d p q (Some r) =
+    cond (beyond d q r) (record { station = with_neighbour d (Some q) p; sends = send q (introduction r) })
     (cond (eqb q r) (unchanged p) (record { station = p; sends = send r (introduction q) }))
 
 -- "Deliver introduction of q: ... If q is p, no more."
@@ -62,7 +59,7 @@ introduced p q = cond (eqb q p.number) (unchanged p) (meet (side_of p.number q) 
 -- "an introduction of p goes to left and left becomes none"; with no neighbour, no more
 unfoldable pub drop_neighbour : Side → declared.Station → Neighbour → Reaction
 drop_neighbour d p None = unchanged p
-drop_neighbour d p (Station r) = record { station = with_neighbour d None p; sends = send r (introduction p.number) }
+drop_neighbour d p (Some r) = record { station = with_neighbour d None p; sends = send r (introduction p.number) }
 
 -- "Deliver remove-left: ... If p is staying and has a left ... A leaving p does no more."
 -- "Deliver remove-right: ... If p has a right, staying or leaving ..."
@@ -81,8 +78,8 @@ received p RemoveRight = removed p Right
 -- "Exit: ... With both neighbours, left is introduced to right and right to left. The block of p goes."
 unfoldable pub introduce_both : Neighbour → Neighbour → List Send
 introduce_both None n = []
-introduce_both (Station l) None = []
-introduce_both (Station l) (Station r) = send l (introduction r) ++ send r (introduction l)
+introduce_both (Some l) None = []
+introduce_both (Some l) (Some r) = send l (introduction r) ++ send r (introduction l)
 
 -- the node after the step, none where its block goes, and what it sends
 pub record Effect : Type 0 where
@@ -90,12 +87,12 @@ pub record Effect : Type 0 where
   pub sends : List Send
 
 abbrev pub kept : List Message → Reaction → Effect
-kept b r = record { after = some (record { station = r.station; bag = b }); sends = r.sends }
+kept b r = record { after = Some (record { station = r.station; bag = b }); sends = r.sends }
 
 -- l says whether s may leave, and what holds it
 unfoldable pub act : Leave → Node → Action → Answer Effect
-act l s Timeout = done (record { after = some s; sends = timeout s.station })
+act l s Timeout = done (record { after = Some s; sends = timeout s.station })
 act l s (Deliver m) = require (holds m s.bag) NotInBag (done (kept (remove m s.bag) (received s.station m.content)))
 act l s Exit =
     require (leaving s) Staying
-    (unless_held l (done (record { after = none; sends = introduce_both s.station.left s.station.right })))
+    (unless_held l (done (record { after = None; sends = introduce_both s.station.left s.station.right })))

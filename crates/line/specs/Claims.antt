@@ -1,12 +1,11 @@
 -- What is proved of the definitions (the proofs are in proofs/, under the same names in snake case).
 use Rattle.std.specs.Prelude.{ℕ, ◌≤◌, ◌≡◌, ◌↔◌, ◌≢◌, true, List, [], ◌∷◌, length}
+use Rattle.line.specs.Types.{Leave, Reading}
 use mathlib.Core.List.{Memᴰ as Member}
 use Rattle.lists.specs.Numbers.{Rising}
 use Rattle.line.specs.declared.Reason.{Reason}
-use Rattle.line.specs.declared.Leave.{Leave}
 use Rattle.line.specs.declared.Refusal.{Refusal}
 use Rattle.line.specs.declared.Refusal.TheVariants.{Full}
-use Rattle.line.specs.declared.Reading.{Reading}
 use Rattle.line.specs.declared.Step as declared
 use Rattle.line.specs.declared.Action.{Action}
 use Rattle.line.specs.Answer.{refused, done}

@@ -1,9 +1,8 @@
 -- In line, a term of document 01 ("What a step does at station p") that document 02, T-04, makes stricter, so that it lasts.
-use Rattle.std.specs.Prelude.{ℕ, ◌≡◌, Bool, true, false, not, ◌&&◌, [], ◌∷◌, eqb}
+use Rattle.std.specs.Prelude.{ℕ, ◌≡◌, Bool, true, false, not, ◌&&◌, [], ◌∷◌, eqb, Some, None}
+use Rattle.line.specs.Types.{Neighbour}
 use mathlib.Core.List.{Memᴰ as Member}
 use Rattle.lists.specs.Lists.{all, any}
-use Rattle.line.specs.declared.Neighbour.{Neighbour}
-use Rattle.line.specs.declared.Neighbour.TheVariants.{None, Station}
 use Rattle.line.specs.declared.Side.{Side}
 use Rattle.line.specs.Message.{removal, is_removal}
 use Rattle.line.specs.Node.{Node, Line, number, leaving, Present, Beyond, neighbour}
@@ -16,7 +15,7 @@ pub record Next (line : Line) (d : Side) (p q : ℕ) : Type 0 where
 
 abbrev pub IsNext : Line → Side → ℕ → Neighbour → Type 0
 IsNext line d p None = (r : ℕ) → Present line r → ¬ Beyond d p r
-IsNext line d p (Station q) = Next line d p q
+IsNext line d p (Some q) = Next line d p q
 
 -- Document 01's condition, the term as it was: "In line: each station's left is the next smaller station present, none for the smallest, and
 -- likewise its right. The empty table is in line."
@@ -43,19 +42,19 @@ pub record InLine (line : Line) : Type 0 where
 -- The tests, tied to the statements by `NeighboursTested` and `InLineTested` of Claims.antt.
 unfoldable pub is_same : Neighbour → Neighbour → Bool
 is_same None None = true
-is_same None (Station n) = false
-is_same (Station m) None = false
-is_same (Station m) (Station n) = eqb m n
+is_same None (Some n) = false
+is_same (Some m) None = false
+is_same (Some m) (Some n) = eqb m n
 
 unfoldable pub first : Line → Neighbour
 first [] = None
-first (s ∷ line) = Station (number s)
+first (s ∷ line) = Some (number s)
 
 -- of a line in written order: the station before is the left, the station after is the right
 unfoldable pub neighbours_after : Neighbour → Line → Bool
 neighbours_after before [] = true
 neighbours_after before (s ∷ line) =
-    is_same s.station.left before && (is_same s.station.right (first line) && neighbours_after (Station (number s)) line)
+    is_same s.station.left before && (is_same s.station.right (first line) && neighbours_after (Some (number s)) line)
 
 unfoldable pub neighbours_in_line : Line → Bool
 neighbours_in_line line = neighbours_after None line

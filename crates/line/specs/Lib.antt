@@ -1,6 +1,7 @@
 -- What a reader must believe, in reading order. Document 01 is the scope, source 000 the Finite Leave report.
 pub mod Numbers
 pub mod Limits
+pub mod Types
 pub mod Answer
 pub mod Message
 pub mod Marks

@@ -1,14 +1,13 @@
 -- Links and joined stations, terms of document 01 ("The whole run").
-use Rattle.std.specs.Prelude.{ℕ, ◌≡◌}
+use Rattle.std.specs.Prelude.{ℕ, ◌≡◌, Some}
 use mathlib.Core.List.{Memᴰ as Member}
-use Rattle.line.specs.declared.Neighbour.TheVariants.{Station}
 use Rattle.line.specs.declared.Side.{Side}
 use Rattle.line.specs.Message.{introduction}
 use Rattle.line.specs.Node.{Node, Line, number, neighbour}
 
 -- "A station is linked to its neighbours and to each station introduced in its bag; remove-left and remove-right link nothing."
 pub data Linked (s : Node) (q : ℕ) : Type 0 where
-  by_neighbour : (d : Side) → neighbour d s.station ≡ Station q → Linked s q
+  by_neighbour : (d : Side) → neighbour d s.station ≡ Some q → Linked s q
   by_introduction : Member (introduction q) s.bag → Linked s q
 
 -- the link of a line from station p to station q

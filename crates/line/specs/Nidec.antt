@@ -1,8 +1,7 @@
 -- NIDEC (document 01, "What a step does at station p"; source 000, section 2, "Oracles").
-use Rattle.std.specs.Prelude.{ℕ, ◌≡◌, ◌≢◌, Bool, true, false, ◌||◌, List, [], ◌∷◌, eqb}
+use Rattle.std.specs.Prelude.{ℕ, ◌≡◌, ◌≢◌, Bool, true, false, ◌||◌, List, [], ◌∷◌, eqb, Some, None}
+use Rattle.line.specs.Types.{Neighbour}
 use mathlib.Core.List.{Memᴰ as Member}
-use Rattle.line.specs.declared.Neighbour.{Neighbour}
-use Rattle.line.specs.declared.Neighbour.TheVariants.{None, Station}
 use Rattle.line.specs.declared.Message.{Message}
 use Rattle.line.specs.Message.{introduction, holds}
 use Rattle.line.specs.Node.{Node, Line, number}
@@ -17,7 +16,7 @@ pub record Nidec (line : Line) (p : Node) : Type 0 where
 -- The tests that `leave_of` of Leave.antt asks.
 unfoldable pub is_neighbour : ℕ → Neighbour → Bool
 is_neighbour n None = false
-is_neighbour n (Station m) = eqb n m
+is_neighbour n (Some m) = eqb n m
 
 unfoldable pub names : ℕ → Node → Bool
 names n s = is_neighbour n s.station.left || (is_neighbour n s.station.right || holds (introduction n) s.bag)

@@ -1,9 +1,8 @@
 -- A station with its bag, the line of all stations, and their written order (document 01, "What the engine holds" and "The block").
-use Rattle.std.specs.Prelude.{ℕ, ◌<◌, Bool, false, cond, List, [], map, ltb}
+use Rattle.std.specs.Prelude.{ℕ, ◌<◌, Bool, false, cond, List, [], map, ltb, None}
+use Rattle.line.specs.Types.{Neighbour}
 use mathlib.Core.List.{Memᴰ as Member}
 use Rattle.lists.specs.Numbers.{Rising}
-use Rattle.line.specs.declared.Neighbour.{Neighbour}
-use Rattle.line.specs.declared.Neighbour.TheVariants.{None}
 use Rattle.line.specs.declared.Message.{Message}
 use Rattle.line.specs.declared.Station as declared
 use Rattle.line.specs.declared.Side.{Side}

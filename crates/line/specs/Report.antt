@@ -3,11 +3,9 @@
 -- The figure says what a process sends, not how a channel takes it in: the channels are updated by the machine's own `send_all` and `put`,
 -- and a message is received by its `remove`. So `ReportAgrees` does not pin these; the situations and examples do, with every copy
 -- counted, and of the run's bytes the contract of `run`.
-use Rattle.std.specs.Prelude.{ℕ, ◌≡◌, Bool, true, false, cond, not, ◌&&◌, List, [], ◌++◌, ltb}
-use Rattle.std.proofs.Math.Option.{Option, none, some}
+use Rattle.std.specs.Prelude.{ℕ, ◌≡◌, Bool, true, false, cond, not, ◌&&◌, List, [], ◌++◌, ltb, Option, Some, None}
+use Rattle.line.specs.Types.{Neighbour}
 use mathlib.Core.List.{Memᴰ as Member}
-use Rattle.line.specs.declared.Neighbour.{Neighbour}
-use Rattle.line.specs.declared.Neighbour.TheVariants.{None, Station}
 use Rattle.line.specs.declared.Content.{Content}
 use Rattle.line.specs.declared.Content.TheVariants.{Introduction, RemoveLeft, RemoveRight}
 use Rattle.line.specs.declared.Message.{Message}
@@ -192,11 +190,11 @@ Guard line s Exit = Nidec line s × (s.station.marks.leaving ≡ true)
 -- A station as a process, and back.
 unfoldable pub left_id : Neighbour → Id
 left_id None = −∞
-left_id (Station n) = process n
+left_id (Some n) = process n
 
 unfoldable pub right_id : Neighbour → Id
 right_id None = +∞
-right_id (Station n) = process n
+right_id (Some n) = process n
 
 -- the variable of a side, right or left
 abbrev pub variable : Side → Neighbour → Id
@@ -205,7 +203,7 @@ variable Left n = left_id n
 
 unfoldable pub neighbour_of : Id → Neighbour
 neighbour_of −∞ = None
-neighbour_of (process n) = Station n
+neighbour_of (process n) = Some n
 neighbour_of +∞ = None
 
 unfoldable pub process_of : Node → Process
@@ -221,8 +219,8 @@ process_of s = record {
 
 unfoldable pub node_of : Process → Option Node
 node_of v =
-    cond v.exited none
-    (some
+    cond v.exited None
+    (Some
     (record {
       station = record { number = v.p; left = neighbour_of v.left; right = neighbour_of v.right; marks = v.marks };
       bag = v.C;

@@ -1,17 +1,14 @@
 -- A whole run (document 01, "The whole run").
-use Rattle.std.specs.Prelude.{ℕ, suc, ◌≡◌, List, [], ◌∷◌, length, take, drop}
-use Rattle.line.specs.declared.Reading.{Reading}
-use Rattle.line.specs.declared.Reading.TheVariants.{Step, Refused}
-use Rattle.line.specs.declared.Ending.{Ending}
-use Rattle.line.specs.declared.Ending.TheVariants.{Complete, Stopped}
+use Rattle.std.specs.Prelude.{ℕ, suc, ◌≡◌, List, [], ◌∷◌, length, take, drop, Ok, Err}
+use Rattle.line.specs.Types.{Ending, Reading}
 use Rattle.line.specs.Answer.{Answer, refused, done}
 use Rattle.line.specs.Node.{Line}
 use Rattle.line.specs.Step.{step}
 
 -- a step as it was read: a malformed one is refused whatever the line
 unfoldable pub try : Line → Reading → Answer Line
-try line (Step x) = step line x
-try line (Refused r) = refused r
+try line (Ok x) = step line x
+try line (Err r) = refused r
 
 -- how the run ended, the steps before the first refused one, and the line that they left
 pub record Run : Type 0 where
@@ -21,9 +18,9 @@ pub record Run : Type 0 where
 
 -- "A run starts from the table read; each step acts on what the steps before it left, and a refused one ends the run."
 unfoldable pub run : Line → List Reading → Run
-run line [] = record { ending = Complete; steps = 0; line = line }
+run line [] = record { ending = Ok tt; steps = 0; line = line }
 run line (x ∷ l) = elim (try line x) [
-  | refused r ↦ record { ending = Stopped r; steps = 0; line = line }
+  | refused r ↦ record { ending = Err r; steps = 0; line = line }
   | done after ↦ let r = run after l in record { ending = r.ending; steps = suc r.steps; line = r.line }
 ]
 
@@ -35,8 +32,8 @@ Leads (x ∷ l) before after = (between : Line) × (try before x ≡ done betwee
 
 -- why nothing is done after the first n readings of a list, which left a line: there are no more, or the next one is refused
 abbrev pub EndsAt : List Reading → ℕ → Line → Ending → Type 0
-EndsAt l n line Complete = n ≡ length l
-EndsAt l n line (Stopped r) = (x : Reading) × (rest : List Reading) × (drop n l ≡ x ∷ rest) × (try line x ≡ refused r)
+EndsAt l n line (Ok _) = n ≡ length l
+EndsAt l n line (Err r) = (x : Reading) × (rest : List Reading) × (drop n l ≡ x ∷ rest) × (try line x ≡ refused r)
 
 pub record IsRun (line : Line) (l : List Reading) (r : Run) : Type 0 where
   pub leads : Leads (take r.steps l) line r.line

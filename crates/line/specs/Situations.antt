@@ -1,12 +1,10 @@
 -- The situations of document 01 ("Thirteen situations to try") that have a star, as one list, and what is claimed of each.
-use Rattle.std.specs.Prelude.{ℕ, ◌≡◌, Bool, true, false, List, [], ◌∷◌}
-use Rattle.line.specs.declared.Neighbour.{Neighbour}
-use Rattle.line.specs.declared.Neighbour.TheVariants.{None, Station}
+use Rattle.std.specs.Prelude.{ℕ, ◌≡◌, Bool, true, false, List, [], ◌∷◌, Some, None, Ok}
+use Rattle.line.specs.Types.{Neighbour}
 use Rattle.line.specs.declared.Message.{Message}
 use Rattle.line.specs.declared.Step as declared
 use Rattle.line.specs.declared.Side.TheVariants.{Left, Right}
 use Rattle.line.specs.declared.Action.TheVariants.{Timeout, Deliver, Exit}
-use Rattle.line.specs.declared.Reading.TheVariants.{Step}
 use Rattle.line.specs.Answer.{ending_number}
 use Rattle.line.specs.Message.{introduction, removal}
 use Rattle.line.specs.Marks.{plain}
@@ -31,7 +29,7 @@ abbrev pub refusing : Line → declared.Step → ℕ → Situation
 refusing before x n = record { before = before; step = x; answer = n; steps = 0; after = before }
 
 abbrev pub ran_once : Situation → Run
-ran_once x = run x.before (Step x.step ∷ [])
+ran_once x = run x.before (Ok x.step ∷ [])
 
 -- the line is accepted, and the run gives exactly that
 pub record Holds (x : Situation) : Type 0 where
@@ -66,34 +64,34 @@ exit_of n = record { station = n; action = Exit }
 unfoldable pub situations : List Situation
 situations =
     -- 1: introduction 7: right 7; 7 receives introduction 9
-    doing (single 3 [] ∷ staying 5 (Station 3) (Station 9) (introduction 7 ∷ []) ∷ single 7 [] ∷ single 9 [] ∷ []) (deliver_to 5 (introduction 7))
-    (single 3 [] ∷ staying 5 (Station 3) (Station 7) [] ∷ single 7 (introduction 9 ∷ []) ∷ single 9 [] ∷ []) ∷
+    doing (single 3 [] ∷ staying 5 (Some 3) (Some 9) (introduction 7 ∷ []) ∷ single 7 [] ∷ single 9 [] ∷ []) (deliver_to 5 (introduction 7))
+    (single 3 [] ∷ staying 5 (Some 3) (Some 7) [] ∷ single 7 (introduction 9 ∷ []) ∷ single 9 [] ∷ []) ∷
     -- 2: introduction 9: one copy gone, no more
-    doing (single 3 [] ∷ staying 5 (Station 3) (Station 9) (introduction 9 ∷ introduction 9 ∷ []) ∷ single 9 [] ∷ []) (deliver_to 5 (introduction 9))
-    (single 3 [] ∷ staying 5 (Station 3) (Station 9) (introduction 9 ∷ []) ∷ single 9 [] ∷ []) ∷
+    doing (single 3 [] ∷ staying 5 (Some 3) (Some 9) (introduction 9 ∷ introduction 9 ∷ []) ∷ single 9 [] ∷ []) (deliver_to 5 (introduction 9))
+    (single 3 [] ∷ staying 5 (Some 3) (Some 9) (introduction 9 ∷ []) ∷ single 9 [] ∷ []) ∷
     -- 3: introduction 12: 9 receives introduction 12
-    doing (single 3 [] ∷ staying 5 (Station 3) (Station 9) (introduction 12 ∷ []) ∷ single 9 [] ∷ single 12 [] ∷ []) (deliver_to 5 (introduction 12))
-    (single 3 [] ∷ staying 5 (Station 3) (Station 9) [] ∷ single 9 (introduction 12 ∷ []) ∷ single 12 [] ∷ []) ∷
+    doing (single 3 [] ∷ staying 5 (Some 3) (Some 9) (introduction 12 ∷ []) ∷ single 9 [] ∷ single 12 [] ∷ []) (deliver_to 5 (introduction 12))
+    (single 3 [] ∷ staying 5 (Some 3) (Some 9) [] ∷ single 9 (introduction 12 ∷ []) ∷ single 12 [] ∷ []) ∷
     -- 4: right none, introduction 12: right 12, nothing sent
-    doing (single 3 [] ∷ staying 5 (Station 3) None (introduction 12 ∷ []) ∷ single 12 [] ∷ []) (deliver_to 5 (introduction 12))
-    (single 3 [] ∷ staying 5 (Station 3) (Station 12) [] ∷ single 12 [] ∷ []) ∷
+    doing (single 3 [] ∷ staying 5 (Some 3) None (introduction 12 ∷ []) ∷ single 12 [] ∷ []) (deliver_to 5 (introduction 12))
+    (single 3 [] ∷ staying 5 (Some 3) (Some 12) [] ∷ single 12 [] ∷ []) ∷
     -- 5: introduction 5: one copy gone, no more
-    doing (single 3 [] ∷ staying 5 (Station 3) (Station 9) (introduction 5 ∷ introduction 5 ∷ []) ∷ single 9 [] ∷ []) (deliver_to 5 (introduction 5))
-    (single 3 [] ∷ staying 5 (Station 3) (Station 9) (introduction 5 ∷ []) ∷ single 9 [] ∷ []) ∷
+    doing (single 3 [] ∷ staying 5 (Some 3) (Some 9) (introduction 5 ∷ introduction 5 ∷ []) ∷ single 9 [] ∷ []) (deliver_to 5 (introduction 5))
+    (single 3 [] ∷ staying 5 (Some 3) (Some 9) (introduction 5 ∷ []) ∷ single 9 [] ∷ []) ∷
     -- 6: staying, remove-left: 3 receives introduction 5; left none
-    doing (single 3 [] ∷ staying 5 (Station 3) (Station 9) (removal Left ∷ []) ∷ single 9 [] ∷ []) (deliver_to 5 (removal Left))
-    (single 3 (introduction 5 ∷ []) ∷ staying 5 None (Station 9) [] ∷ single 9 [] ∷ []) ∷
+    doing (single 3 [] ∷ staying 5 (Some 3) (Some 9) (removal Left ∷ []) ∷ single 9 [] ∷ []) (deliver_to 5 (removal Left))
+    (single 3 (introduction 5 ∷ []) ∷ staying 5 None (Some 9) [] ∷ single 9 [] ∷ []) ∷
     -- 7: leaving, remove-left: one copy gone, no more
-    doing (single 3 [] ∷ leaving 5 (Station 3) (Station 9) (removal Left ∷ removal Left ∷ []) ∷ single 9 [] ∷ []) (deliver_to 5 (removal Left))
-    (single 3 [] ∷ leaving 5 (Station 3) (Station 9) (removal Left ∷ []) ∷ single 9 [] ∷ []) ∷
+    doing (single 3 [] ∷ leaving 5 (Some 3) (Some 9) (removal Left ∷ removal Left ∷ []) ∷ single 9 [] ∷ []) (deliver_to 5 (removal Left))
+    (single 3 [] ∷ leaving 5 (Some 3) (Some 9) (removal Left ∷ []) ∷ single 9 [] ∷ []) ∷
     -- 8: leaving, remove-right: 9 receives introduction 5; right none
-    doing (single 3 [] ∷ leaving 5 (Station 3) (Station 9) (removal Right ∷ []) ∷ single 9 [] ∷ []) (deliver_to 5 (removal Right))
-    (single 3 [] ∷ leaving 5 (Station 3) None [] ∷ single 9 (introduction 5 ∷ []) ∷ []) ∷
+    doing (single 3 [] ∷ leaving 5 (Some 3) (Some 9) (removal Right ∷ []) ∷ single 9 [] ∷ []) (deliver_to 5 (removal Right))
+    (single 3 [] ∷ leaving 5 (Some 3) None [] ∷ single 9 (introduction 5 ∷ []) ∷ []) ∷
     -- 9: leaving, timeout: 3 receives remove-right, 9 receives remove-left
-    doing (single 3 [] ∷ leaving 5 (Station 3) (Station 9) [] ∷ single 9 [] ∷ []) (timeout_at 5)
-    (single 3 (removal Right ∷ []) ∷ leaving 5 (Station 3) (Station 9) [] ∷ single 9 (removal Left ∷ []) ∷ []) ∷
+    doing (single 3 [] ∷ leaving 5 (Some 3) (Some 9) [] ∷ single 9 [] ∷ []) (timeout_at 5)
+    (single 3 (removal Right ∷ []) ∷ leaving 5 (Some 3) (Some 9) [] ∷ single 9 (removal Left ∷ []) ∷ []) ∷
     -- 10: leaving, NIDEC holds, exit: 9 receives introduction 3, 3 receives introduction 9, block gone
-    doing (single 3 [] ∷ leaving 5 (Station 3) (Station 9) [] ∷ single 9 [] ∷ []) (exit_of 5)
+    doing (single 3 [] ∷ leaving 5 (Some 3) (Some 9) [] ∷ single 9 [] ∷ []) (exit_of 5)
     (single 3 (introduction 9 ∷ []) ∷ single 9 (introduction 3 ∷ []) ∷ []) ∷
     -- 11: the same, but 5's bag holds a remove-left: 14
-    refusing (single 3 [] ∷ leaving 5 (Station 3) (Station 9) (removal Left ∷ []) ∷ single 9 [] ∷ []) (exit_of 5) 14 ∷ []
+    refusing (single 3 [] ∷ leaving 5 (Some 3) (Some 9) (removal Left ∷ []) ∷ single 9 [] ∷ []) (exit_of 5) 14 ∷ []

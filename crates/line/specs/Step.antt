@@ -1,6 +1,5 @@
 -- A step on the whole line (document 01, "What a step does at station p" and "The numbers a crew may see", 11 to 15).
-use Rattle.std.specs.Prelude.{ℕ, Bool, cond, not, ◌||◌, List, [], ◌∷◌, map, eqb, ltb, length}
-use Rattle.std.proofs.Math.Option.{Option, none, some}
+use Rattle.std.specs.Prelude.{ℕ, Bool, cond, not, ◌||◌, List, [], ◌∷◌, map, eqb, ltb, length, Option, Some, None}
 use Rattle.line.specs.declared.Message.{Message}
 use Rattle.line.specs.declared.Step.{Step}
 use Rattle.line.specs.declared.Refusal.TheVariants.{Absent, Full}
@@ -26,8 +25,8 @@ without n (s ∷ line) = cond (eqb (number s) n) (without n line) (s ∷ without
 
 -- station n as it is after the step, or its block gone
 unfoldable pub replace : ℕ → Option Node → Line → Line
-replace n none line = without n line
-replace n (some s) line = map (change n (λ (t : Node). s)) line
+replace n None line = without n line
+replace n (Some s) line = map (change n (λ (t : Node). s)) line
 
 unfoldable pub with_message : Message → Node → Node
 with_message m s = record { station = s.station; bag = put m s.bag }

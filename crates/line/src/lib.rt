@@ -2,19 +2,15 @@
 #![tactic(auto)]
 
 pub mod limits;
-pub mod numbers;
 
 ghost use Rattle.std.specs.Prelude.{◌≡◌};
-ghost use Rattle.line.specs.Answer.{reason_number, reason_holder, carried_number, carried_holder, refusal_number, refusal_reason, ending_number, answer_number, answer_reason};
+ghost use Rattle.line.specs.Answer.{reason_number, reason_holder, carried_number, carried_holder, fault_number, checked_number, refusal_number, refusal_reason, refused_number, told, answer_number, answer_reason};
+ghost use Rattle.line.specs.declared.Refused.TheVariants.{Before, Step};
 ghost use Rattle.line.specs.Marks.{flags, marks_from};
 ghost use Rattle.line.specs.Node as node;
 
 // "A neighbour is either none or a station number."
-#[derive(Clone, Copy)]
-pub enum Neighbour {
-    None,
-    Station(u32),
-}
+pub type Neighbour = Option<u32>;
 
 // "A message is either an introduction that carries a station number, a remove-left or a remove-right."
 #[derive(Clone, Copy)]
@@ -76,19 +72,8 @@ pub enum Reason {
     HeldBy(u32),
 }
 
-// The reason that an answer carries, where it carries one.
-#[derive(Clone, Copy)]
-pub enum Carried {
-    Nothing,
-    Because(Reason),
-}
-
-// Whether a station may leave.
-#[derive(Clone, Copy)]
-pub enum Leave {
-    May,
-    MayNot(Reason),
-}
+// Whether a station may leave, or what still holds it.
+pub type Leave = Result<(), Reason>;
 
 // Why a step is refused (document 01, "The numbers a crew may see", 10 to 15). "The run's refusal 14 carries the same reason" (document 02,
 // T-02).
@@ -102,26 +87,35 @@ pub enum Refusal {
     Full,
 }
 
-// "Reading one step gives either the step or its refusal."
+// What is refused before any step (document 01, "The numbers a crew may see", 1 to 9 and 16; document 02, T-03, 17).
 #[derive(Clone, Copy)]
-pub enum Reading {
-    Step(Step),
-    Refused(Refusal),
+pub enum Fault {
+    // Of a table: its length, the number of its blocks, a check, a field, a side, two blocks of one station, a station named without a block.
+    PartBlock,
+    ManyBlocks,
+    BadCheck,
+    BadField,
+    BadSide,
+    TwoBlocks,
+    NoBlock,
+    // Of a step list, and of a lent room or list.
+    BadList,
+    ShortRoom,
+    // Of a file of the program.
+    BadFile,
+    // Of how many questions are asked at once.
+    TooMuch,
 }
 
-// How a run ends: all steps done, or stopped at the first refused one.
+// What an entry point refuses: a fault found before any step, or a step.
 #[derive(Clone, Copy)]
-pub enum Ending {
-    Complete,
-    Stopped(Refusal),
+pub enum Refused {
+    Before(Fault),
+    Step(Refusal),
 }
 
-// What a run answers: the number of what is refused before the first step, or how it ended.
-#[derive(Clone, Copy)]
-pub enum Answered {
-    Refused(u32),
-    Ended(Ending),
-}
+// How a run over an accepted table ends: all steps done, or stopped at the first refused one.
+pub type Ending = Result<(), Refusal>;
 
 impl Reason {
     // The value of the C interface: 2 for the own bag, 3 for a holder.
@@ -145,28 +139,6 @@ impl Reason {
     }
 }
 
-impl Carried {
-    // The value of the reason; 0 where there is none.
-    pub fn number(self) -> u32
-        ensures { result ≡ carried_number self }
-    {
-        match self {
-            Carried::Nothing => 0,
-            Carried::Because(why) => why.number(),
-        }
-    }
-
-    // The station that the reason names; 0 where none is named.
-    pub fn holder(self) -> u32
-        ensures { result ≡ carried_holder self }
-    {
-        match self {
-            Carried::Nothing => 0,
-            Carried::Because(why) => why.holder(),
-        }
-    }
-}
-
 impl Refusal {
     // The number a crew sees.
     pub fn number(self) -> u32
@@ -183,54 +155,116 @@ impl Refusal {
     }
 
     // "The run's refusal 14 carries the same reason"; no other does.
-    fn reason(self) -> Carried
+    fn reason(self) -> Option<Reason>
         ensures { result ≡ refusal_reason self }
     {
         match self {
-            Refusal::Malformed => Carried::Nothing,
-            Refusal::Absent => Carried::Nothing,
-            Refusal::NotInBag => Carried::Nothing,
-            Refusal::Staying => Carried::Nothing,
-            Refusal::Held(why) => Carried::Because(why),
-            Refusal::Full => Carried::Nothing,
+            Refusal::Malformed => None,
+            Refusal::Absent => None,
+            Refusal::NotInBag => None,
+            Refusal::Staying => None,
+            Refusal::Held(why) => Some(why),
+            Refusal::Full => None,
         }
     }
 }
 
-impl Ending {
-    // The number a crew sees: 0 for a run with no refused step.
-    pub fn number(self) -> u32
-        ensures { result ≡ ending_number self }
-    {
-        match self {
-            Ending::Complete => 0,
-            Ending::Stopped(refusal) => refusal.number(),
-        }
-    }
-}
-
-impl Answered {
+impl Fault {
     // The number a crew sees.
     pub fn number(self) -> u32
-        ensures { result ≡ answer_number self }
+        ensures { result ≡ fault_number self }
     {
         match self {
-            Answered::Refused(number) => number,
-            Answered::Ended(ending) => ending.number(),
+            Fault::PartBlock => 1,
+            Fault::ManyBlocks => 2,
+            Fault::BadCheck => 3,
+            Fault::BadField => 4,
+            Fault::BadSide => 5,
+            Fault::TwoBlocks => 6,
+            Fault::NoBlock => 7,
+            Fault::BadList => 8,
+            Fault::ShortRoom => 9,
+            Fault::BadFile => 16,
+            Fault::TooMuch => 17,
         }
     }
+}
 
-    // The reason of a run that stopped at 14.
-    pub fn reason(self) -> Carried
-        ensures { result ≡ answer_reason self }
+impl Refused {
+    // The number a crew sees.
+    pub fn number(self) -> u32
+        ensures { result ≡ refused_number self }
     {
         match self {
-            Answered::Refused(_) => Carried::Nothing,
-            Answered::Ended(ending) => match ending {
-                Ending::Complete => Carried::Nothing,
-                Ending::Stopped(refusal) => refusal.reason(),
-            },
+            Refused::Before(fault) => fault.number(),
+            Refused::Step(refusal) => refusal.number(),
         }
+    }
+}
+
+impl From<Fault> for Refused {
+    ghost from_gives = { λ fault refused. refused ≡ Before fault };
+
+    fn from(fault: Fault) -> Refused {
+        Refused::Before(fault)
+    }
+}
+
+impl From<Refusal> for Refused {
+    ghost from_gives = { λ refusal refused. refused ≡ Step refusal };
+
+    fn from(refusal: Refusal) -> Refused {
+        Refused::Step(refusal)
+    }
+}
+
+// The value of the reason that an answer carries; 0 where it carries none.
+pub fn carried_number(carried: Option<Reason>) -> u32
+    ensures { result ≡ carried_number carried }
+{
+    match carried {
+        None => 0,
+        Some(why) => why.number(),
+    }
+}
+
+// The station that this reason names; 0 where none is named.
+pub fn carried_holder(carried: Option<Reason>) -> u32
+    ensures { result ≡ carried_holder carried }
+{
+    match carried {
+        None => 0,
+        Some(why) => why.holder(),
+    }
+}
+
+// The number a crew sees of what was checked: 0 where nothing is refused.
+pub fn checked_number(checked: Result<(), Fault>) -> u32
+    ensures { result ≡ checked_number checked }
+{
+    match checked {
+        Ok(()) => 0,
+        Err(fault) => fault.number(),
+    }
+}
+
+// The number a crew sees of what a run answers: 0 for a run with no refused step.
+pub fn answer_number(answer: Result<(), Refused>) -> u32
+    ensures { result ≡ answer_number (told answer) }
+{
+    match answer {
+        Ok(()) => 0,
+        Err(refused) => refused.number(),
+    }
+}
+
+// The reason of a run that stopped at 14.
+pub fn answer_reason(answer: Result<(), Refused>) -> Option<Reason>
+    ensures { result ≡ answer_reason (told answer) }
+{
+    match answer {
+        Err(Refused::Step(refusal)) => refusal.reason(),
+        _ => None,
     }
 }
 
@@ -261,8 +295,8 @@ impl Station {
         let marks = Marks::from_words(0, 0);
         Station {
             number: 0,
-            left: Neighbour::None,
-            right: Neighbour::None,
+            left: None,
+            right: None,
             marks,
         }
     }

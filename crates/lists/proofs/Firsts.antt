@@ -1,49 +1,39 @@
--- Searching in the first n elements of an array from the front, and what the first place that passes is good for.
+-- Searching in a list from the front, and what the first place that passes is good for.
 use mathlib.Core.Path.{◌≡◌, refl, sym, ap, ◌∙◌}
 use mathlib.Core.Bool.{Bool, true, false, cond, ◌||◌}
 use mathlib.Core.List.{List, [], ◌∷◌}
-use Prim.Native.Nat.{ℕ, suc, ◌+◌, ◌≤◌, ◌<◌, min}
+use Prim.Native.Nat.{ℕ, zero, suc, ◌+◌, ◌≤◌, ◌<◌, min}
 use native.Mathlib.Numerals.{add-one}
 use native.Mathlib.Omega.{arith}
 use lib.Dec.{ltb, leb-suc-suc}
 use borrow.Author.Tests.{lt-ltb}
 use lib.ListN.{length, get_or, take, drop, length-take, drop_of_length-le}
 use lib.Seq.{length-take-le, get_or-take, drop-cons}
+use Rattle.std.specs.Prelude.{Option, Some, None, MatchOption}
+use Rattle.std.specs.Option.{unwrap_or}
+use Rattle.std.specs.List.{AllWithin, HoldsAt}
 use Rattle.lists.specs.Lists.{any, remove_first}
 use Rattle.lists.specs.Places.{remove_at, first_at}
 
-module _ {A : Type 0} where
-  pub rest_cons : (n : ℕ) (a : List A) (i : ℕ) (d : A) → i < n → n ≤ length a
-      → drop i (take n a) ≡ get_or a i d ∷ drop (i + 1) (take n a)
-  rest_cons n a i d h k =
-      let e : length (take n a) ≡ n = length-take-le n a k in
-      drop-cons (take n a) i d (omega arith) ∙ rw (get_or-take, add-one)
-
-  rest_none : (n : ℕ) (a : List A) (i : ℕ) → n ≤ i → drop i (take n a) ≡ []
-  rest_none n a i h =
-      let e : length (take n a) ≡ min n (length a) = length-take n a in
-      let h' : length (take n a) ≤ i = omega arith in
-      drop_of_length-le (take n a) h'
-
--- nothing that passes stands before i
-abbrev pub Sought : {A : Type 0} → (A → Bool) → ℕ → List A → ℕ → Type 0
-Sought f n a i = first_at f (take n a) ≡ i + first_at f (drop i (take n a))
-
--- a turn of the loop, at an element that passes and at one that does not
-module _ {A : Type 0} (f : A → Bool) (n : ℕ) (a : List A) (i : ℕ) (d : A) where
-  pub sought_here : Sought f n a i → f (get_or a i d) ≡ true → i < n → n ≤ length a → i ≡ first_at f (take n a)
+module _ {A : Type 0} (f : A → Bool) where
+  -- the first that passes is the one before which none does
+  pub first_here : (l : List A) (i : ℕ) → i < length l → HoldsAt (λ (x : A). f x ≡ true) l i → AllWithin (λ (x : A). f x ≡ false) l 0 i → i ≡ first_at f l
   unfolding first_at
-  sought_here s e h k = rw (s, rest_cons n a i d h k, e) (omega arith)
+  first_here [] i h e n = absurd (omega arith)
+  first_here (x ∷ l) zero h e n = rw (e x)
+  first_here (x ∷ l) (suc i) h e n = rw (n 0 x (omega arith) (omega arith)) (ap suc (first_here l i (omega arith) e (λ k d b c. n (suc k) d (omega arith) (omega arith))))
 
-  pub sought_next : Sought f n a i → f (get_or a i d) ≡ false → i < n → n ≤ length a → Sought f n a (i + 1)
+  pub first_end : (l : List A) → AllWithin (λ (x : A). f x ≡ false) l 0 (length l) → length l ≡ first_at f l
   unfolding first_at
-  sought_next s e h k = s ∙ rw (rest_cons n a i d h k, e) (omega arith)
+  first_end [] n = refl
+  first_end (x ∷ l) n = rw (n 0 x (omega arith) (omega arith)) (ap suc (first_end l (λ k d b c. n (suc k) d (omega arith) (omega arith))))
 
--- after the last turn
-module _ {A : Type 0} (f : A → Bool) (n : ℕ) (a : List A) (i : ℕ) where
-  pub sought_none : Sought f n a i → n ≤ i → i ≡ first_at f (take n a)
-  unfolding first_at
-  sought_none s h = rw (s, rest_none n a i h) (omega arith)
+  -- a place that a search found, or the length where it found none
+  pub first_or_end : (l : List A) (r : Option ℕ)
+      → MatchOption r (AllWithin (λ (x : A). f x ≡ false) l 0 (length l)) (λ (i : ℕ). (i < length l) × HoldsAt (λ (x : A). f x ≡ true) l i × AllWithin (λ (x : A). f x ≡ false) l 0 i)
+      → unwrap_or r (length l) ≡ first_at f l
+  first_or_end l None n = first_end l n
+  first_or_end l (Some i) (h, e, n) = first_here l i h e n
 
 module _ {A : Type 0} (f : A → Bool) where
   -- one passes exactly when there is a first

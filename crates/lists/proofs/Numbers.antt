@@ -18,22 +18,6 @@ use Rattle.lists.specs.Places.{first_at}
 use Rattle.lists.proofs.Firsts.{any_first}
 use Rattle.lists.proofs.Elements.{drop_one, member_at}
 
--- One pair after another.
-module _ (l : List ℕ) (i : ℕ) where
-  pub rises_next : i + 1 < length l → get_or l i 0 < get_or l (i + 1) 0 → rises (drop i l) ≡ rises (drop (i + 1) l)
-  unfolding rises
-  rises_next h e = rw (drop_one l 0 i (omega arith), drop_one l 0 (i + 1) h, lt-ltb _ _ e)
-
-  pub rises_fails : i + 1 < length l → get_or l (i + 1) 0 ≤ get_or l i 0 → rises (drop i l) ≡ false
-  unfolding rises
-  rises_fails h e = rw (drop_one l 0 i (omega arith), drop_one l 0 (i + 1) h, le-ltb _ _ e)
-
-pub rises_short : (l : List ℕ) → length l ≤ 1 → rises l ≡ true
-unfolding rises
-rises_short [] h = refl
-rises_short (x ∷ []) h = refl
-rises_short (x ∷ y ∷ l) h = absurd (omega arith)
-
 -- The test says that the numbers rise, and the other way round.
 pub rises_rising : (l : List ℕ) → rises l ≡ true → Rising l
 unfolding rises
@@ -56,6 +40,20 @@ rising_at [] i j r h k = absurd (not-suc-le-zero k)
 rising_at (x ∷ l) i zero r h k = absurd (not-suc-le-zero h)
 rising_at (x ∷ l) zero (suc j) r h k = r.0 (get_or l j 0) (member_at l j 0 (le_of_suc-le-suc k))
 rising_at (x ∷ l) (suc i) (suc j) r h k = rising_at l i j r.1 (le_of_suc-le-suc h) (le_of_suc-le-suc k)
+
+-- One pair after another, or one pair that does not rise.
+pub rises_pairs : (l : List ℕ) → ((k : ℕ) → suc k < length l → get_or l k 0 < get_or l (suc k) 0) → rises l ≡ true
+unfolding rises
+rises_pairs [] h = refl
+rises_pairs (x ∷ []) h = refl
+rises_pairs (x ∷ y ∷ l) h = both_and (lt-ltb x y (h 0 (omega arith))) (rises_pairs (y ∷ l) (λ k b. h (suc k) (omega arith)))
+
+pub rises_fails : (l : List ℕ) (k : ℕ) → k + 1 < length l → get_or l (k + 1) 0 ≤ get_or l k 0 → rises l ≡ false
+rises_fails l k h e = go (rises l) refl
+  where
+    go : (b : Bool) → rises l ≡ b → b ≡ false
+    go true r = absurd (omega (arith, rising_at l k (k + 1) (rises_rising l r) (omega arith) h))
+    go false r = refl
 
 -- The first that equals q: at its place, or nowhere.
 module _ (q : ℕ) where

@@ -1,88 +1,87 @@
 -- What the messages of a block add to a tally, one after another, and what the block adds with its left and its right.
-use Prim.Native.Nat.{ℕ, ◌+◌, ◌≤◌, ◌<◌}
-use mathlib.Core.Path.{◌≡◌, refl, ap, ◌∙◌}
+use Prim.Native.Nat.{ℕ, min, ◌+◌, ◌≤◌, ◌<◌}
+use Rattle.std.specs.Prelude.{Option, Some, None}
+use mathlib.Core.Path.{◌≡◌, refl, ap}
 use mathlib.Core.Bool.{Bool, true, false, cond, not, ◌&&◌, ◌||◌, or-false, or_assoc}
-use mathlib.Core.Option.{Option, none, some}
 use mathlib.Core.List.{List, [], ◌∷◌, ◌++◌}
 use native.Mathlib.Numerals.{add-one}
 use native.Mathlib.Omega.{arith}
 use lib.Dec.{eqb, ltb}
-use lib.ListN.{length, get_or}
+use lib.ListN.{length, get_or, set}
 use borrow.Author.Tests.{le-ltb}
 use Rattle.lists.specs.Lists.{any, count}
 use Rattle.lists.specs.Places.{first_at}
 use Rattle.lists.specs.Numbers.{Rising}
 use Rattle.lists.proofs.Lists.{any_append, count-append}
 use Rattle.line.specs.declared.Message.{Message}
-use Rattle.line.specs.declared.Neighbour.{Neighbour}
 use Rattle.line.specs.declared.Station as declared
 use Rattle.line.specs.Message.{introduction, same}
 use Rattle.line.specs.Nidec.{is_neighbour, names}
 use Rattle.line.specs.Node.{number}
 use Rattle.line.specs.Leave.{is_holder, smaller}
-use Rattle.fields.specs.declared.Place.{Place}
-use Rattle.fields.specs.Fields.{message_of}
+use Rattle.fields.specs.Fields.{message_of, Place}
 use Rattle.octets.specs.Bytes.{word}
 use Rattle.index.specs.Index.{numbers_in}
 use Rattle.block.specs.Layout.{place_at, messages, station_of, node_of}
 use Rattle.mentions.specs.Mentions.{once, mentions_by}
-use Rattle.mentions.specs.Tally.{Tally, raised, lowered, Below, is_beside, is_introduced, AddsOne, AddsMessages, AddsNode}
-use Rattle.mentions.proofs.Naming.{beside_one, introduced_one}
-use Rattle.mentions.proofs.Tallies.{tally_same, tally_next, raised_grows}
+use Rattle.mentions.specs.Tally.{Tally, raised, lowered, Below, is_other, is_beside, is_introduced, AddsOne, AddsMessages, AddsNode}
+use Rattle.mentions.proofs.Naming.{place_another, other_one}
+use Rattle.mentions.proofs.Tallies.{tally_same, tally_next, raised_grows, none_raised, none_lowered, now_lowered}
 
 -- one station, named for one reason or for another, stays the smaller of two
 smaller_or : (a b : Bool) (p : ℕ) (o : Option ℕ) → smaller b p (smaller a p o) ≡ smaller (a || b) p o
 smaller_or false b p o = refl
 smaller_or true false p o = refl
-smaller_or true true p none = rw (le-ltb p p (omega arith))
-smaller_or true true p (some q) = go (ltb q p) refl
+smaller_or true true p None = rw (le-ltb p p (omega arith))
+smaller_or true true p (Some q) = go (ltb q p) refl
   where
-    go : (b : Bool) → ltb q p ≡ b → some (cond (ltb (cond b q p) p) (cond b q p) p) ≡ some (cond b q p)
+    go : (b : Bool) → ltb q p ≡ b → Some (cond (ltb (cond b q p) p) (cond b q p) p) ≡ Some (cond b q p)
     go true e = rw e
     go false e = rw (le-ltb p p (omega arith))
 
--- One mention by station p, of the station at a place.
-module _ {counts smallest : List ℕ} (p : ℕ) (index : List ℕ) (r : Rising (numbers_in index)) (fits : p < 4294967296) {i : ℕ} where
-  one_added : (test : ℕ → Bool) → ((m k : ℕ) → test m ≡ true → test k ≡ true → m ≡ k) → i ≡ first_at test (numbers_in index) → {c s : List ℕ} → c ≡ raised i counts → s ≡ lowered i p smallest
-      → AddsOne p test (numbers_in index) counts smallest c s
-  one_added test one at c-is s-is = record {
-    tallies = λ f o t. rw (c-is, s-is) (tally_next r t test one at (omega arith));
+-- Station p mentions nobody; the one that another test passes too; station q.
+module _ (p : ℕ) {n counts smallest : List ℕ} where
+  pub nobody_added : (test : ℕ → Bool) → ((m : ℕ) → test m ≡ false) → AddsOne p test n counts smallest counts smallest
+  nobody_added test nobody = record {
+    tallies = λ f o t. tally_same (λ m. rw (nobody m) (omega arith)) (λ m. rw (nobody m)) t;
+    grows = λ j d. record { at = λ k. omega (arith, d.at k) };
+  }
+
+  pub same_added : (a b : ℕ → Bool) → ((m : ℕ) → a m ≡ b m) → {c s : List ℕ} → AddsOne p a n counts smallest c s → AddsOne p b n counts smallest c s
+  same_added a b same adds = record {
+    tallies = λ f o t. tally_same (λ m. rw (same m)) (λ m. rw (same m)) (adds.tallies f o t);
+    grows = adds.grows;
+  }
+
+module _ {counts smallest : List ℕ} (p q : ℕ) (index : List ℕ) (r : Rising (numbers_in index)) (fits : p < 4294967296) (another : p ≡ q → ⊥) {i : ℕ} (at : i ≡ first_at (eqb q) (numbers_in index)) where
+  placed : {c s : List ℕ} → c ≡ raised i counts → s ≡ lowered i p smallest → AddsOne p (is_other p q) (numbers_in index) counts smallest c s
+  placed c-is s-is = record {
+    tallies = λ f o t. rw (c-is, s-is) (tally_next r t (is_other p q) (other_one p q) (place_another p q another index at) (omega arith));
     grows = λ j h. rw c-is (raised_grows i counts j h);
   }
 
-  pub neighbour_added : (n : Neighbour) → i ≡ first_at (is_beside p n) (numbers_in index) → {c s : List ℕ} → c ≡ raised i counts → s ≡ lowered i p smallest
-      → AddsOne p (is_beside p n) (numbers_in index) counts smallest c s
-  neighbour_added n = one_added (is_beside p n) (beside_one p n)
+  -- which the index has, or has not
+  pub one_added : {x : ℕ} → x ≡ min p (get_or smallest i 0) → AddsOne p (is_other p q) (numbers_in index) counts smallest (raised i counts) (set smallest i x)
+  one_added e = placed refl (now_lowered smallest i p e)
 
-  pub message_added : (x : Message) → i ≡ first_at (is_introduced p x) (numbers_in index) → {c s : List ℕ} → c ≡ raised i counts → s ≡ lowered i p smallest
-      → AddsOne p (is_introduced p x) (numbers_in index) counts smallest c s
-  message_added x = one_added (is_introduced p x) (introduced_one p x)
-
--- there is room for one more
-pub one_fits : {counts : List ℕ} → Below 4000000 counts → (i : ℕ) → get_or counts i 0 < 4294967295
-one_fits h i = omega (arith, h.at i)
+  pub none_added : length counts ≡ length smallest → length counts ≤ i → AddsOne p (is_other p q) (numbers_in index) counts smallest counts smallest
+  none_added alike past = placed (none_raised counts past) (none_lowered counts smallest p alike past)
 
 -- the first i of the n counted messages of a block are added
 pub record AddedTo (b index counts₀ smallest₀ : List ℕ) (p n i : ℕ) (counts smallest : List ℕ) : Type 0 where
   pub within : i ≤ n
   pub few : n ≤ 32
   pub is : n ≡ word b 16
-  pub alike : length counts ≡ length smallest
-  pub size : length counts ≡ length counts₀
-  pub like : length smallest ≡ length smallest₀
   pub tallies : (f : ℕ → ℕ) (o : ℕ → Option ℕ) → Tally (numbers_in index) counts₀ smallest₀ f o
       → Tally (numbers_in index) counts smallest (λ (m : ℕ). count (λ (x : Message). is_introduced p x m) (messages b i) + f m) (λ (m : ℕ). smaller (any (λ (x : Message). is_introduced p x m) (messages b i)) p (o m))
   pub grows : (j : ℕ) → Below j counts₀ → Below (j + i) counts
 
-pub added_none : (b index : List ℕ) {counts smallest : List ℕ} {p n : ℕ} → n ≡ word b 16 → word b 16 ≤ 32 → length counts ≡ length smallest → AddedTo b index counts smallest p n 0 counts smallest
+pub added_none : (b index : List ℕ) {counts smallest : List ℕ} {p n : ℕ} → n ≡ word b 16 → word b 16 ≤ 32 → AddedTo b index counts smallest p n 0 counts smallest
 unfolding messages any count
-added_none b index e h l = record {
+added_none b index e h = record {
   within = omega arith;
   few = omega arith;
   is = e;
-  alike = l;
-  size = refl;
-  like = refl;
   tallies = λ f o t. tally_same (λ m. omega arith) (λ m. refl) t;
   grows = λ j d. record { at = λ i. omega (arith, d.at i) };
 }
@@ -93,16 +92,13 @@ module _ {b index counts₀ smallest₀ : List ℕ} {p n i : ℕ} {counts smalle
 
   -- message i is added
   pub added_next : i < n → {x : Place} → x ≡ place_at b i → {m : Message} → m ≡ message_of x → {counts' smallest' : List ℕ}
-      → AddsOne p (is_introduced p m) (numbers_in index) counts smallest counts' smallest' → length counts' ≡ length counts → length smallest' ≡ length smallest
+      → AddsOne p (is_introduced p m) (numbers_in index) counts smallest counts' smallest'
       → AddedTo b index counts₀ smallest₀ p n (i + 1) counts' smallest'
   unfolding messages any count
-  added_next l {x} read {m} is adds long short = record {
+  added_next l {x} read {m} is adds = record {
     within = omega arith;
     few = so_far.few;
     is = so_far.is;
-    alike = omega (arith, so_far.alike);
-    size = long ∙ so_far.size;
-    like = short ∙ so_far.like;
     tallies = λ f o t. tally_same (counted f) (held o) (adds.tallies _ _ (so_far.tallies f o t));
     grows = λ j d. record { at = λ k. omega (arith, (adds.grows (j + i) (so_far.grows j d)).at k) };
   }
@@ -181,5 +177,5 @@ module _ {c₀ c₁ s₀ s₁ n : List ℕ} {p : ℕ} {test : ℕ → Bool} (h :
   pub right_room : Below 4000000 c₁
   right_room = record { at = λ i. omega (arith, (one.grows 2000000 h).at i) }
 
-  pub bag_room : {c₂ s₂ : List ℕ} {more : ℕ → Bool} → AddsOne p more n c₁ s₁ c₂ s₂ → Below 3000000 c₂
+  pub bag_room : {c₂ s₂ n₂ : List ℕ} {more : ℕ → Bool} → AddsOne p more n₂ c₁ s₁ c₂ s₂ → Below 3000000 c₂
   bag_room two = record { at = λ i. omega (arith, (two.grows 2000001 (one.grows 2000000 h)).at i) }

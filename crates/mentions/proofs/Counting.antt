@@ -6,15 +6,13 @@ use native.Mathlib.Omega.{arith}
 use lib.ListN.{length, get_or, drop, replicate, drop_of_length-le, length-replicate}
 use Rattle.line.specs.Node.{Line}
 use Rattle.line.specs.Leave.{holder_of}
-use Rattle.octets.specs.Bytes.{word}
 use Rattle.index.specs.Index.{numbers_in}
 use Rattle.index.proofs.Entries.{numbers_length}
 use Rattle.block.specs.Layout.{node_of}
 use Rattle.table.specs.Blocks.{block_at, blocks, nodes}
 use Rattle.table.specs.Fault.{fault_of}
-use Rattle.table.specs.Index.{index_of}
 use Rattle.table.proofs.BlockLaws.{blocks_from, nodes_length}
-use Rattle.table.proofs.Lines.{clean_few, clean_count}
+use Rattle.table.proofs.Lines.{clean_few}
 use Rattle.mentions.specs.Mentions.{mentions}
 use Rattle.mentions.specs.Tally.{TallyOf, Below, AddsNode}
 
@@ -31,24 +29,21 @@ zero_below n = record { at = λ i. go n i }
     go (suc n) zero = omega arith
     go (suc n) (suc i) = go n i
 
-pub record CountedTo (t index counts₀ smallest₀ : List ℕ) (k : ℕ) (counts smallest : List ℕ) : Type 0 where
+pub lent_alike : {counts smallest : List ℕ} (index : List ℕ) → counts ≡ replicate (length index) 0 → smallest ≡ replicate (length index) 4294967295 → length counts ≡ length smallest
+lent_alike index c s = rw (c, s) (length-replicate (length index) 0 ∙ sym (length-replicate (length index) 4294967295))
+
+pub record CountedTo (t index : List ℕ) (k : ℕ) (counts smallest : List ℕ) : Type 0 where
   pub within : k ≤ length t / 512
   pub few : length t / 512 ≤ 64
-  pub alike : length counts ≡ length smallest
-  pub size : length counts ≡ length counts₀
-  pub like : length smallest ≡ length smallest₀
   pub tally : TallyOf (numbers_in index) counts smallest (drop k (nodes t))
   pub below : Below (34 * (length t / 512 - k)) counts
 
 pub counted_none : (t index counts smallest : List ℕ) → fault_of t ≡ 0 → counts ≡ replicate (length index) 0 → smallest ≡ replicate (length index) 4294967295
-    → CountedTo t index counts smallest (length t / 512) counts smallest
+    → CountedTo t index (length t / 512) counts smallest
 unfolding mentions holder_of
 counted_none t index counts smallest clean c s = record {
   within = omega arith;
   few = clean_few t clean;
-  alike = rw (c, s) (length-replicate (length index) 0 ∙ sym (length-replicate (length index) 4294967295));
-  size = refl;
-  like = refl;
   tally = rw (drop_of_length-le (nodes t) {i = length t / 512} (omega (arith, nodes_length t))) (record {
     counted = c ∙ rw (← numbers_length index) (replicated 0 (numbers_in index));
     least = s ∙ rw (← numbers_length index) (replicated 4294967295 (numbers_in index));
@@ -66,28 +61,19 @@ nodes_from t k h = drop-map (blocks t) k ∙ rw (blocks_from t k h) (ap (λ (l :
     drop-map [] (suc i) = refl
     drop-map (b ∷ l) (suc i) = drop-map l i
 
-module _ {t index counts₀ smallest₀ : List ℕ} {k : ℕ} {counts smallest : List ℕ} (so_far : CountedTo t index counts₀ smallest₀ k counts smallest) where
+module _ {t index : List ℕ} {k : ℕ} {counts smallest : List ℕ} (so_far : CountedTo t index k counts smallest) where
   pub counted_room : Below 2000000 counts
   counted_room = record { at = λ i. omega (arith, so_far.below.at i, so_far.few) }
 
-  pub counted_block : fault_of t ≡ 0 → 0 < k → {b : List ℕ} → b ≡ block_at t (k - 1) → word b 16 ≤ 32
-  counted_block clean h read = clean_count t clean (k - 1) (omega (arith, so_far.within)) read
-
-  -- the block before is added
+  -- block k - 1 is added
   pub counted_next : 0 < k → {b : List ℕ} → b ≡ block_at t (k - 1) → {counts' smallest' : List ℕ} → AddsNode (node_of b) (numbers_in index) counts smallest counts' smallest'
-      → length counts' ≡ length counts → length smallest' ≡ length smallest → CountedTo t index counts₀ smallest₀ (k - 1) counts' smallest'
+      → CountedTo t index (k - 1) counts' smallest'
   unfolding mentions holder_of
-  counted_next h {b} read adds long short = record {
+  counted_next h {b} read adds = record {
     within = omega (arith, so_far.within);
     few = so_far.few;
-    alike = omega (arith, so_far.alike);
-    size = long ∙ so_far.size;
-    like = short ∙ so_far.like;
     tally =
         let last : k ≡ k - 1 + 1 = omega arith in
         rw (nodes_from t (k - 1) (omega (arith, so_far.within)), ← read) (adds.tallies _ _ (rw last at so_far.tally));
     below = record { at = λ i. omega (arith, (adds.grows _ so_far.below).at i, so_far.within) };
   }
-
-  pub counted_all : k ≤ 0 → index ≡ index_of t → TallyOf (numbers_in (index_of t)) counts smallest (nodes t)
-  counted_all h e = let z : k ≡ 0 = omega arith in rw (z, e) at so_far.tally

@@ -1,14 +1,14 @@
 -- One mention more: the count of the station that is mentioned rises, and the smallest that mentions it is the smaller of two.
-use Prim.Native.Nat.{ℕ, suc, ◌+◌, ◌≤◌, ◌<◌}
+use Prim.Native.Nat.{ℕ, suc, min, ◌+◌, ◌≤◌}
+use Rattle.std.specs.Prelude.{Option, Some, None}
 use mathlib.Core.Path.{◌≡◌, refl, sym, ap, ◌∙◌}
 use mathlib.Core.Bool.{Bool, true, false, cond}
-use mathlib.Core.Option.{Option, none, some}
 use mathlib.Core.List.{List, [], ◌∷◌, map}
 use native.Mathlib.Omega.{arith}
 use lib.Dec.{eqb, ltb}
 use lib.ListN.{length, get_or, set}
 use lib.Seq.{set_out, get_or-set_same, get_or-set_other}
-use borrow.Author.Tests.{eqb-true, eqb-false, ltb-true, ltb-false, leb-true, leb-false, lt-ltb, le-ltb}
+use borrow.Author.Tests.{eqb-true, eqb-false, ltb-true, ltb-false, leb-true, leb-false}
 use lib.Dec.{leb}
 use Rattle.lists.specs.Places.{first_at}
 use Rattle.lists.specs.Numbers.{Rising}
@@ -25,12 +25,13 @@ none_raised counts {i} past = sym (set_out counts i (get_or counts i 0 + 1) past
 pub none_lowered : (counts smallest : List ℕ) (p : ℕ) {i : ℕ} → length counts ≡ length smallest → length counts ≤ i → smallest ≡ lowered i p smallest
 none_lowered counts smallest p {i} size past = sym (set_out smallest i (lesser p (get_or smallest i 0)) (omega arith))
 
--- the first of two numbers where it is below the other, else the other
-pub first_lesser : (a b : ℕ) → a < b → a ≡ lesser a b
-first_lesser a b h = rw (lt-ltb a b h)
-
-pub second_lesser : (a b : ℕ) → b ≤ a → b ≡ lesser a b
-second_lesser a b h = rw (le-ltb a b h)
+-- the smaller of two numbers, in std's words
+min_lesser : (a b : ℕ) → min a b ≡ lesser a b
+min_lesser a b = go (ltb a b) refl
+  where
+    go : (t : Bool) → ltb a b ≡ t → min a b ≡ cond t a b
+    go true e = omega (arith, ltb-true a b e)
+    go false e = omega (arith, ltb-false a b e)
 
 -- A list of numbers by rising stations, stored to at the first station that passes a test that no two pass.
 module _ (test : ℕ → Bool) (one : (m k : ℕ) → test m ≡ true → test k ≡ true → m ≡ k) (u f : ℕ → ℕ) where
@@ -48,12 +49,12 @@ module _ (test : ℕ → Bool) (one : (m k : ℕ) → test m ≡ true → test k
 
 -- the smaller of two as a number
 lowest_lesser : (p : ℕ) (o : Option ℕ) → p ≤ 4294967295 → lesser p (lowest o) ≡ lowest (smaller true p o)
-lowest_lesser p none h = go (ltb p 4294967295) refl
+lowest_lesser p None h = go (ltb p 4294967295) refl
   where
     go : (b : Bool) → ltb p 4294967295 ≡ b → cond b p 4294967295 ≡ p
     go true e = refl
     go false e = omega (arith, ltb-false p 4294967295 e)
-lowest_lesser p (some q) h = go (ltb p q) refl (ltb q p) refl
+lowest_lesser p (Some q) h = go (ltb p q) refl (ltb q p) refl
   where
     go : (a : Bool) → ltb p q ≡ a → (b : Bool) → ltb q p ≡ b → cond a p q ≡ cond b q p
     go true e true f = omega (arith, ltb-true p q e, ltb-true q p f)
@@ -95,5 +96,5 @@ raised_grows i counts j h = record { at = λ k. go k (eqb k i) refl (leb (length
     go k false e false f = rw (get_or-set_other counts i k (get_or counts i 0 + 1) 0 (eqb-false k i e)) (omega (arith, h.at k))
 
 -- the smaller of two is stored
-pub now_lowered : (smallest : List ℕ) (i p : ℕ) {x : ℕ} → x ≡ lesser p (get_or smallest i 0) → set smallest i x ≡ lowered i p smallest
-now_lowered smallest i p e = rw e
+pub now_lowered : (smallest : List ℕ) (i p : ℕ) {x : ℕ} → x ≡ min p (get_or smallest i 0) → set smallest i x ≡ lowered i p smallest
+now_lowered smallest i p e = rw (e, min_lesser)

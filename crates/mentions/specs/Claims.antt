@@ -1,6 +1,5 @@
 -- What is proved of the mentions (the proofs are in proofs/, under the same names in snake case).
-use Rattle.std.specs.Prelude.{ℕ, ◌≡◌, ◌↔◌, []}
-use Rattle.std.proofs.Math.Option.{none}
+use Rattle.std.specs.Prelude.{ℕ, ◌≡◌, ◌↔◌, [], None}
 use Rattle.line.specs.Nidec.{Nidec}
 use Rattle.line.specs.Node.{Node, Line, number}
 use Rattle.line.specs.Leave.{holder_of}
@@ -12,4 +11,4 @@ FreeExactly = (line : Line) (s : Node) → Nidec line s ↔ ((s.bag ≡ []) × (
 
 -- 2. Nobody mentions p exactly when there is no smallest station that does.
 abbrev pub UnmentionedExactly : Type 0
-UnmentionedExactly = (line : Line) (p : ℕ) → (mentions p line ≡ 0) ↔ (holder_of p line ≡ none)
+UnmentionedExactly = (line : Line) (p : ℕ) → (mentions p line ≡ 0) ↔ (holder_of p line ≡ None)

@@ -1,7 +1,5 @@
 -- Worked lines of mentions (document 02, T-03), each computed from its definition.
-use Rattle.std.specs.Prelude.{ℕ, ◌≡◌, true, List, [], ◌∷◌, map}
-use Rattle.std.proofs.Math.Option.{Option, none, some}
-use Rattle.line.specs.declared.Neighbour.TheVariants.{None, Station}
+use Rattle.std.specs.Prelude.{ℕ, ◌≡◌, true, List, [], ◌∷◌, map, Option, Some, None}
 use Rattle.line.specs.declared.Side.TheVariants.{Left, Right}
 use Rattle.line.specs.Message.{introduction, removal}
 use Rattle.line.specs.Node.{Node, Line, number}
@@ -18,13 +16,13 @@ Shows line counts holders =
 pub record MentionsShow : Type 0 where
   -- 5 is mentioned by 9 as its left and by two copies of an introduction, and by 3 as its right; 3 by one introduction
   pub copied : Shows
-      (staying 9 (Station 5) None (introduction 5 ∷ introduction 3 ∷ introduction 5 ∷ []) ∷ leaving 5 None None [] ∷ staying 3 None (Station 5) [] ∷ [])
+      (staying 9 (Some 5) None (introduction 5 ∷ introduction 3 ∷ introduction 5 ∷ []) ∷ leaving 5 None None [] ∷ staying 3 None (Some 5) [] ∷ [])
       (0 ∷ 4 ∷ 1 ∷ [])
-      (none ∷ some 3 ∷ some 9 ∷ [])
+      (None ∷ Some 3 ∷ Some 9 ∷ [])
   -- a station's own bag does not mention it
-  pub own : Shows (leaving 5 None None (introduction 5 ∷ introduction 5 ∷ []) ∷ []) (0 ∷ []) (none ∷ [])
+  pub own : Shows (leaving 5 None None (introduction 5 ∷ introduction 5 ∷ []) ∷ []) (0 ∷ []) (None ∷ [])
   -- removals mention nobody
   pub removals : Shows
-      (staying 3 None (Station 5) (removal Left ∷ removal Right ∷ []) ∷ staying 5 None None (removal Left ∷ []) ∷ [])
+      (staying 3 None (Some 5) (removal Left ∷ removal Right ∷ []) ∷ staying 5 None None (removal Left ∷ []) ∷ [])
       (0 ∷ 1 ∷ [])
-      (none ∷ some 3 ∷ [])
+      (None ∷ Some 3 ∷ [])

@@ -2,4 +2,5 @@
 pub mod Mentions
 pub mod Examples
 pub mod Tally
+pub mod Growing
 pub mod Claims

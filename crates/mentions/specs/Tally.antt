@@ -1,9 +1,8 @@
 -- The arrays of the count (document 02, T-03): for each station of an index how often it is mentioned, and the smallest station that does.
-use Rattle.std.specs.Prelude.{ℕ, ◌+◌, ◌≤◌, ◌≡◌, Bool, cond, not, ◌&&◌, List, map, eqb, ltb, get_or, set}
-use Rattle.std.proofs.Math.Option.{Option, none, some}
+use Rattle.std.specs.Prelude.{ℕ, ◌+◌, ◌≤◌, ◌≡◌, Bool, cond, not, ◌&&◌, List, map, eqb, ltb, get_or, set, Option, Some, None}
+use Rattle.line.specs.Types.{Neighbour}
 use Rattle.lists.specs.Lists.{any, count}
 use Rattle.line.specs.declared.Message.{Message}
-use Rattle.line.specs.declared.Neighbour.{Neighbour}
 use Rattle.line.specs.Message.{introduction, same, capacity}
 use Rattle.line.specs.Nidec.{is_neighbour}
 use Rattle.line.specs.Node.{Node, Line, number}
@@ -12,8 +11,8 @@ use Rattle.mentions.specs.Mentions.{once, mentions_by, mentions}
 
 -- the smallest station as a number of 32 bits, or the largest of these numbers, above every station number, where there is none
 abbrev pub lowest : Option ℕ → ℕ
-lowest none = 4294967295
-lowest (some q) = q
+lowest None = 4294967295
+lowest (Some q) = q
 
 -- the smaller of two numbers
 abbrev pub lesser : ℕ → ℕ → ℕ

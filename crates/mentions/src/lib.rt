@@ -2,98 +2,96 @@
 // T-03: "Mentions are counted once from the table").
 #![tactic(auto)]
 
-mod places;
-
-ghost use Rattle.std.specs.Prelude.{◌≡◌, ◌<◌, ◌≤◌, length, get_or, replicate};
-ghost use Rattle.lists.specs.Numbers.{Rising};
+ghost use Rattle.std.specs.Prelude.{◌≡◌, ◌≤◌, length, replicate};
 ghost use Rattle.octets.specs.Bytes.{word};
 ghost use Rattle.index.specs.Index.{numbers_in};
 ghost use Rattle.block.specs.Layout.{messages, node_of};
 ghost use Rattle.table.specs.Blocks.{nodes};
 ghost use Rattle.table.specs.Fault.{fault_of};
 ghost use Rattle.table.specs.Index.{index_of};
-ghost use Rattle.mentions.specs.Tally as spec;
-ghost use Rattle.mentions.specs.Tally.{TallyOf, AddsNode, AddsOne, AddsMessages, Below, is_beside, is_introduced, raised, lowered};
+ghost use Rattle.mentions.specs.Tally.{TallyOf, AddsNode, AddsOne, AddsMessages, is_other, is_beside, is_introduced};
+ghost use Rattle.mentions.specs.Growing.{Ready, Keeps};
 
 use block::places::place_at;
 use block::station_of;
 use fields::message_of;
-use line::{Message, Neighbour};
+use index::lookup;
+use line::{Content, Message, Neighbour};
 use octets::word_at;
-use places::{message_place, neighbour_place};
 use table::block_at;
 
-// The smaller of two numbers.
-fn lesser(a: u32, b: u32) -> u32
-    ensures { result ≡ spec.lesser a b }
-{
-    if a < b { a } else { b }
+// For each station of the index, by rising number: how often the others mention it so far, and the smallest that does.
+#[derive(Drop)]
+struct Tally<'a> {
+    index: &'a [u64],
+    counts: &'a mut [u32],
+    smallest: &'a mut [u32],
 }
 
-// One mention by station p of the station at place i; past the end there is none.
-fn add(counts: &mut [u32], smallest: &mut [u32], i: usize, p: u32)
-    requires { (length counts.old ≡ length smallest.old) × (get_or counts.old i 0 < 4294967295) }
-    ensures { (counts.new ≡ raised i counts.old) × (smallest.new ≡ lowered i p smallest.old) }
-{
-    if counts.len() <= i {
-        return;
+impl<'a> Tally<'a> {
+    // One mention of station q by station p; "no other station": a station does not mention itself.
+    fn add(&mut self, p: u32, q: u32)
+        requires { Ready 4000000 self.old }
+        ensures added { AddsOne p (is_other p q) (numbers_in self.old.index.now) self.old.counts.now self.old.smallest.now self.new.counts.now self.new.smallest.now }
+        ensures kept { Keeps self.old self.new }
+    {
+        if p == q {
+            return;
+        }
+        let i = lookup(self.index, q);
+        if i < self.counts.len() {
+            self.counts[i] += 1;
+            self.smallest[i] = p.min(self.smallest[i]);
+        }
     }
-    counts[i] += 1;
-    smallest[i] = lesser(p, smallest[i]);
-}
 
-// A neighbour of station p.
-fn add_neighbour(
-    p: u32,
-    neighbour: Neighbour,
-    index: &[u64],
-    counts: &mut [u32],
-    smallest: &mut [u32],
-)
-    requires { Rising (numbers_in index.now) × (length counts.old ≡ length smallest.old) × Below 4000000 counts.old }
-    ensures { AddsOne p (is_beside p neighbour) (numbers_in index.now) counts.old smallest.old counts.new smallest.new }
-{
-    let at = neighbour_place(index, p, neighbour);
-    add(counts, smallest, at, p);
-}
-
-// A message in the bag of station p.
-fn add_message(p: u32, message: Message, index: &[u64], counts: &mut [u32], smallest: &mut [u32])
-    requires { Rising (numbers_in index.now) × (length counts.old ≡ length smallest.old) × Below 4000000 counts.old }
-    ensures { AddsOne p (is_introduced p message) (numbers_in index.now) counts.old smallest.old counts.new smallest.new }
-{
-    let at = message_place(index, p, message);
-    add(counts, smallest, at, p);
-}
-
-// The messages in the counted places of a block, of which p is the station.
-fn add_messages(b: &[u8], p: u32, index: &[u64], counts: &mut [u32], smallest: &mut [u32])
-    requires b_len { (length b.now ≡ 512) × (word b.now 16 ≤ 32) × Rising (numbers_in index.now) }
-    requires counts_len { (length counts.old ≡ length smallest.old) × Below 3000000 counts.old }
-    ensures { AddsMessages p (messages b.now (word b.now 16)) (numbers_in index.now) counts.old smallest.old counts.new smallest.new }
-{
-    let n = word_at(b, 16) as usize;
-    let mut i = 0;
-    while i < n {
-        let message = message_of(place_at(b, i));
-        add_message(p, message, index, counts, smallest);
-        i += 1;
+    // A neighbour of station p.
+    fn add_neighbour(&mut self, p: u32, neighbour: Neighbour)
+        requires { Ready 4000000 self.old }
+        ensures added { AddsOne p (is_beside p neighbour) (numbers_in self.old.index.now) self.old.counts.now self.old.smallest.now self.new.counts.now self.new.smallest.now }
+        ensures kept { Keeps self.old self.new }
+    {
+        if let Some(q) = neighbour {
+            self.add(p, q);
+        }
     }
-}
 
-// What the station of a block mentions: its left, its right, and the introductions in its bag.
-fn add_block(b: &[u8], index: &[u64], counts: &mut [u32], smallest: &mut [u32])
-    requires b_len { (length b.now ≡ 512) × (word b.now 16 ≤ 32) × Rising (numbers_in index.now) }
-    requires counts_len { (length counts.old ≡ length smallest.old) × Below 2000000 counts.old }
-    ensures { AddsNode (node_of b.now) (numbers_in index.now) counts.old smallest.old counts.new smallest.new }
-{
-    let station = station_of(b);
-    let p = station.number;
-    let left = station.left;
-    let right = station.right;
-    add_neighbour(p, left, index, counts, smallest);
-    add_neighbour(p, right, index, counts, smallest);
-    add_messages(b, p, index, counts, smallest);
+    // A message in the bag of station p.
+    fn add_message(&mut self, p: u32, message: Message)
+        requires { Ready 4000000 self.old }
+        ensures added { AddsOne p (is_introduced p message) (numbers_in self.old.index.now) self.old.counts.now self.old.smallest.now self.new.counts.now self.new.smallest.now }
+        ensures kept { Keeps self.old self.new }
+    {
+        if let Content::Introduction(q) = message.content {
+            self.add(p, q);
+        }
+    }
+
+    // The messages in the counted places of a block, of which p is the station.
+    fn add_messages(&mut self, b: &[u8], p: u32)
+        requires b_len { (length b.now ≡ 512) × (word b.now 16 ≤ 32) }
+        requires ready { Ready 3000000 self.old }
+        ensures added { AddsMessages p (messages b.now (word b.now 16)) (numbers_in self.old.index.now) self.old.counts.now self.old.smallest.now self.new.counts.now self.new.smallest.now }
+        ensures kept { Keeps self.old self.new }
+    {
+        let n = word_at(b, 16) as usize;
+        for i in 0..n {
+            self.add_message(p, message_of(place_at(b, i)));
+        }
+    }
+
+    // What the station of a block mentions: its left, its right, and the introductions in its bag.
+    fn add_block(&mut self, b: &[u8])
+        requires b_len { (length b.now ≡ 512) × (word b.now 16 ≤ 32) }
+        requires ready { Ready 2000000 self.old }
+        ensures added { AddsNode (node_of b.now) (numbers_in self.old.index.now) self.old.counts.now self.old.smallest.now self.new.counts.now self.new.smallest.now }
+        ensures kept { Keeps self.old self.new }
+    {
+        let station = station_of(b);
+        self.add_neighbour(station.number, station.left);
+        self.add_neighbour(station.number, station.right);
+        self.add_messages(b, station.number);
+    }
 }
 
 // Of an accepted table and its index: for each station by rising number, how often the others mention it, and the smallest that does.
@@ -102,9 +100,12 @@ pub fn count_mentions(table: &[u8], index: &[u64], counts: &mut [u32], smallest:
     requires counts_value { (counts.old ≡ replicate (length index.now) 0) × (smallest.old ≡ replicate (length index.now) 4294967295) }
     ensures { TallyOf (numbers_in (index_of table.now)) counts.new smallest.new (nodes table.now) }
 {
-    let mut k = table.len() / 512;
-    while 0 < k {
-        k -= 1;
-        add_block(block_at(table, k), index, counts, smallest);
+    let mut tally = Tally {
+        index,
+        counts,
+        smallest,
+    };
+    for k in (0..table.len() / 512).rev() {
+        tally.add_block(block_at(table, k));
     }
 }

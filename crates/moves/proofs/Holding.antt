@@ -1,7 +1,8 @@
 -- Whether a station may leave, by its own bag and by the nodes of the line one after another: none of the first j holds it.
 use mathlib.Core.Path.{◌≡◌, refl, sym, ap, ◌∙◌}
+use Rattle.std.specs.Prelude.{Option, Some, None, Ok, Err}
+use Rattle.line.specs.Types.{Leave, Neighbour}
 use mathlib.Core.Bool.{Bool, true, false, cond, not, ◌&&◌, ◌||◌}
-use mathlib.Core.Option.{Option, none, some}
 use mathlib.Core.List.{List, [], ◌∷◌}
 use Prim.Native.Nat.{ℕ, suc, ◌+◌, ◌≤◌, ◌<◌}
 use native.Mathlib.Numerals.{add-one}
@@ -16,12 +17,8 @@ use Rattle.lists.specs.Numbers.{Rising}
 use Rattle.lists.proofs.Lists.{clash, mem-map}
 use Rattle.lists.proofs.Elements.{member_at}
 use Rattle.line.specs.declared.Message.{Message}
-use Rattle.line.specs.declared.Neighbour.{Neighbour}
-use Rattle.line.specs.declared.Neighbour.TheVariants.{None, Station}
 use Rattle.line.specs.declared.Station as declared
 use Rattle.line.specs.declared.Reason.TheVariants.{OwnBag, HeldBy}
-use Rattle.line.specs.declared.Leave.{Leave}
-use Rattle.line.specs.declared.Leave.TheVariants.{May, MayNot}
 use Rattle.line.specs.Message.{introduction, same, holds}
 use Rattle.line.specs.Node.{Node, Line, number, numbers, nobody}
 use Rattle.line.specs.Nidec.{is_neighbour, names, is_empty}
@@ -37,7 +34,7 @@ pub neighbour_none : (p : ℕ) (n : Neighbour) → n ≡ None → false ≡ is_n
 unfolding is_neighbour
 neighbour_none p n e = rw e
 
-pub neighbour_same : (p : ℕ) (n : Neighbour) (q : ℕ) → n ≡ Station q → eqb p q ≡ is_neighbour p n
+pub neighbour_same : (p : ℕ) (n : Neighbour) (q : ℕ) → n ≡ Some q → eqb p q ≡ is_neighbour p n
 unfolding is_neighbour
 neighbour_same p n q e = rw e
 
@@ -71,16 +68,16 @@ empty_counted (m ∷ b) c e = sym (ne_eqb c 0 (λ (z : c ≡ 0). omega arith))
 
 -- In written order the smallest that holds p is the first.
 abbrev held_at : List ℕ → ℕ → Leave
-held_at numbers j = cond (ltb j (length numbers)) (MayNot (HeldBy (get_or numbers j 0))) May
+held_at numbers j = cond (ltb j (length numbers)) (Err (HeldBy (get_or numbers j 0))) (Ok tt)
 
 first_held : (p : ℕ) (line : Line) → Rising (numbers line) → held_at (numbers line) (first_at (is_holder p) line) ≡ held_by (holder_of p line)
 unfolding first_at holder_of
 first_held p [] r = refl
 first_held p (s ∷ line) r = go (is_holder p s) (holder_of p line) (holder-found-in p line) (first_held p line r.1)
   where
-    stays : (o : Option ℕ) → Found p line o → smaller true (number s) o ≡ some (number s)
-    stays none h = refl
-    stays (some q) w = rw (le-ltb q (number s) (omega (arith, r.0 (number w.node) (mem-map number w.member), w.named)))
+    stays : (o : Option ℕ) → Found p line o → smaller true (number s) o ≡ Some (number s)
+    stays None h = refl
+    stays (Some q) w = rw (le-ltb q (number s) (omega (arith, r.0 (number w.node) (mem-map number w.member), w.named)))
 
     go : (b : Bool) (o : Option ℕ) → Found p line o → held_at (numbers line) (first_at (is_holder p) line) ≡ held_by o
         → held_at (numbers (s ∷ line)) (cond b 0 (suc (first_at (is_holder p) line))) ≡ held_by (smaller b (number s) o)
@@ -105,14 +102,14 @@ fits_word index j h k = omega (arith, h k)
 
 -- of an index that has the line's numbers: the own bag is not empty, somebody holds, or nobody does
 module _ (index : List ℕ) (c j : ℕ) where
-  pub from_bag : (c ≡ 0 → ⊥) → MayNot OwnBag ≡ leave_from (numbers_in index) c j
+  pub from_bag : (c ≡ 0 → ⊥) → Err OwnBag ≡ leave_from (numbers_in index) c j
   from_bag h = rw (ne_eqb c 0 h)
 
   module _ (empty : c ≡ 0) where
-    pub from_holder : j < length index → MayNot (HeldBy (number_in (get_or index j 0))) ≡ leave_from (numbers_in index) c j
+    pub from_holder : j < length index → Err (HeldBy (number_in (get_or index j 0))) ≡ leave_from (numbers_in index) c j
     from_holder h = rw (eq-eqb c 0 empty, numbers_length index, lt-ltb j (length index) h, number_at index j)
 
-    pub from_nobody : length index ≤ j → May ≡ leave_from (numbers_in index) c j
+    pub from_nobody : length index ≤ j → (Ok tt) ≡ leave_from (numbers_in index) c j
     from_nobody h = rw (eq-eqb c 0 empty, numbers_length index, le-ltb j (length index) h)
 
 -- whether one may hold, by its two sides

@@ -1,10 +1,10 @@
 -- What a step sends, and where it arrives (document 01, "What a step does at station p" and "The numbers a crew may see", 12 to 15).
-use Rattle.std.specs.Prelude.{ℕ, ◌≡◌, Bool, true, false, cond, ◌&&◌, List, eqb, ltb, length, get_or, set}
+use Rattle.std.specs.Prelude.{ℕ, ◌≡◌, Bool, true, false, cond, ◌&&◌, List, eqb, ltb, length, get_or, set, Ok, Err, Option, Some, None}
+use Rattle.line.specs.Types.{Ending, Leave}
 use Rattle.lists.specs.Places.{first_at}
 use Rattle.line.specs.declared.Action.{Action}
 use Rattle.line.specs.declared.Message.{Message}
 use Rattle.line.specs.declared.Station as declared
-use Rattle.line.specs.declared.Leave.{Leave}
 use Rattle.line.specs.declared.Refusal.TheVariants.{Full}
 use Rattle.line.specs.Message.{capacity}
 use Rattle.bag.specs.declared.Bag.{Bag}
@@ -13,31 +13,28 @@ use Rattle.bag.specs.Held.{held, ordered}
 use Rattle.bag.specs.Changes.{Put}
 use Rattle.index.specs.Index.{slot_in, numbers_in}
 use Rattle.rules.specs.declared.Sending.{Sending}
-use Rattle.rules.specs.declared.Sending.TheVariants.{Nothing, To}
-use Rattle.rules.specs.declared.Verdict.{Verdict}
-use Rattle.rules.specs.declared.Verdict.TheVariants.{Done, Refused}
 use Rattle.rules.specs.declared.Decision.{Decision}
 use Rattle.rules.specs.Decided.{is_found, rest, Decides}
 use Rattle.moves.specs.declared.Plan.{Plan}
 
 -- the place of the receiver among the numbers; the sender's own place i where nothing is sent, or where nobody has that number
-abbrev pub receiver_of : List ℕ → Sending → ℕ → ℕ
-receiver_of l Nothing i = i
-receiver_of l (To q m) i = cond (ltb (first_at (eqb q) l) (length l)) (first_at (eqb q) l) i
+abbrev pub receiver_of : List ℕ → Option Sending → ℕ → ℕ
+receiver_of l None i = i
+receiver_of l (Some x) i = cond (ltb (first_at (eqb x.to) l) (length l)) (first_at (eqb x.to) l) i
 
 -- "a bag that must receive holds 32" is refused
-abbrev pub room_for : Sending → ℕ → Bool
-room_for Nothing c = true
-room_for (To q m) c = ltb c capacity
+abbrev pub room_for : Option Sending → ℕ → Bool
+room_for None c = true
+room_for (Some x) c = ltb c capacity
 
 -- the refusals in the order of their numbers: that of the station itself, then that of a bag without room
-abbrev pub verdict_in : Verdict → Bool → Verdict
-verdict_in (Refused r) t = Refused r
-verdict_in Done true = Done
-verdict_in Done false = Refused Full
+abbrev pub verdict_in : Ending → Bool → Ending
+verdict_in (Err r) t = Err r
+verdict_in (Ok _) true = Ok tt
+verdict_in (Ok _) false = Err Full
 
 -- a and b are the counts of the receivers' bags
-abbrev pub verdict_of : Decision → ℕ → ℕ → Verdict
+abbrev pub verdict_of : Decision → ℕ → ℕ → Ending
 verdict_of d a b = verdict_in d.verdict (room_for d.sendings.first a && room_for d.sendings.second b)
 
 -- r is the step of station s, at place i of the index, worked out; l says whether it may leave, and found whether its bag

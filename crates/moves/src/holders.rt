@@ -10,13 +10,11 @@ ghost use Rattle.moves.specs.Holders.{is_exit, may_hold, leave_from};
 use bag::Bag;
 use line::{Action, Content, Leave, Message, Neighbour, Reason, Station};
 
+#[tactic(auto, unfolding(line::specs::Nidec::is_neighbour))]
 pub fn is_neighbour(p: u32, n: Neighbour) -> bool
     ensures { result ≡ spec.is_neighbour p n }
 {
-    match n {
-        Neighbour::None => false,
-        Neighbour::Station(q) => p == q,
-    }
+    Some(p) == n
 }
 
 // Whether station s, with this bag, holds p.
@@ -67,10 +65,10 @@ pub fn leave_from(index: &[u64], count: usize, j: usize) -> Leave
     ensures { result ≡ leave_from (numbers_in index.now) count j }
 {
     if count != 0 {
-        return Leave::MayNot(Reason::OwnBag);
+        return Err(Reason::OwnBag);
     }
     if j < index.len() {
-        return Leave::MayNot(Reason::HeldBy((index[j] / 64) as u32));
+        return Err(Reason::HeldBy((index[j] / 64) as u32));
     }
-    Leave::May
+    Ok(())
 }

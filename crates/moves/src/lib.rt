@@ -4,7 +4,8 @@
 pub mod holders;
 pub mod sends;
 
-use rules::{Decision, Verdict};
+use line::Refusal;
+use rules::Decision;
 
 // A step worked out before anything is stored: what the station decides, the slots of those who receive, and whether the step is done.
 #[derive(Clone, Copy)]
@@ -12,5 +13,5 @@ pub struct Plan {
     pub decision: Decision,
     pub first: usize,
     pub second: usize,
-    pub verdict: Verdict,
+    pub verdict: Result<(), Refusal>,
 }

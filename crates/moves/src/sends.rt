@@ -9,17 +9,17 @@ use crate::Plan;
 use bag::{Bag, Taken};
 use index::lookup_near;
 use line::{Action, Leave, Message, Refusal, Station};
-use rules::{Decision, Sending, Verdict, decide};
+use rules::{Decision, Sending, decide};
 
 // The slot of the receiver; the sender's own, at place i, where nothing is sent, or where nobody has that number.
-fn receiver(index: &[u64], sending: Sending, i: usize) -> usize
+fn receiver(index: &[u64], sending: Option<Sending>, i: usize) -> usize
     requires { (i < length index.now) × Rising (numbers_in index.now) }
     ensures { result ≡ slot_in (get_or index.now (receiver_of (numbers_in index.now) sending i) 0) }
 {
     match sending {
-        Sending::Nothing => (index[i] % 64) as usize,
-        Sending::To(q, _) => {
-            let j = lookup_near(index, q, i);
+        None => (index[i] % 64) as usize,
+        Some(sending) => {
+            let j = lookup_near(index, sending.to, i);
             if j < index.len() {
                 (index[j] % 64) as usize
             } else {
@@ -30,17 +30,17 @@ fn receiver(index: &[u64], sending: Sending, i: usize) -> usize
 }
 
 // Whether a bag of so many messages can take what is sent to it: "a bag that must receive holds 32" is refused.
-fn room_for(sending: Sending, count: usize) -> bool
+fn room_for(sending: Option<Sending>, count: usize) -> bool
     ensures { result ≡ room_for sending count }
 {
     match sending {
-        Sending::Nothing => true,
-        Sending::To(_, _) => count < 32,
+        None => true,
+        Some(_) => count < 32,
     }
 }
 
 // Whether a step is done: the refusal of the station itself, 12 to 14, and then that of a full bag, of the counts of the receivers' bags.
-fn verdict_of(decision: Decision, first: usize, second: usize) -> Verdict
+fn verdict_of(decision: Decision, first: usize, second: usize) -> Result<(), Refusal>
     ensures { result ≡ verdict_of decision first second }
 {
     let verdict = decision.verdict;
@@ -48,12 +48,12 @@ fn verdict_of(decision: Decision, first: usize, second: usize) -> Verdict
     let one = sendings.first;
     let two = sendings.second;
     match verdict {
-        Verdict::Refused(why) => Verdict::Refused(why),
-        Verdict::Done => {
+        Err(why) => Err(why),
+        Ok(()) => {
             if room_for(one, first) & room_for(two, second) {
-                Verdict::Done
+                Ok(())
             } else {
-                Verdict::Refused(Refusal::Full)
+                Err(Refusal::Full)
             }
         }
     }

@@ -1,5 +1,7 @@
 -- The run of one record answers 0 exactly when the record is a step that the machine does.
 use Prim.Native.Nat.{ℕ, ◌/◌, ◌≤◌}
+use Rattle.std.specs.Prelude.{Ok, Err}
+use Rattle.line.specs.Types.{Reading}
 use mathlib.Core.Path.{◌≡◌, refl, sym, ap, ◌∙◌}
 use mathlib.Core.Logic.{◌↔◌}
 use mathlib.Core.Bool.{true}
@@ -9,8 +11,6 @@ use lib.ListN.{length}
 use Rattle.lists.specs.Places.{range}
 use Rattle.lists.proofs.Lists.{clash}
 use Rattle.line.specs.declared.Step as declared
-use Rattle.line.specs.declared.Reading.{Reading}
-use Rattle.line.specs.declared.Reading.TheVariants.{Step, Refused}
 use Rattle.line.specs.Answer.{Answer, refused, done, is_done, ending_number, answer_number}
 use Rattle.line.specs.Node.{Line}
 use Rattle.line.specs.Run.{try, Run, run}
@@ -39,12 +39,12 @@ module _ (line : Line) where
 
   -- what was read is a step that is done
   abbrev pub ReadDone : Reading → Type 0
-  ReadDone x = (y : declared.Step) × (x ≡ Step y) × (is_allowed line y ≡ true)
+  ReadDone x = (y : declared.Step) × (x ≡ Ok y) × (is_allowed line y ≡ true)
 
   done_read : (x : Reading) → (is_done (try line x) ≡ true) ↔ ReadDone x
   unfolding try is_done
-  done_read (Step y) = (λ h. (y, refl, h), λ w. let z : y ≡ w.0 = cc in rw z w.2)
-  done_read (Refused r) = (λ h. clash h refl, λ w. absurd (let z : ◌≡◌ {A = ℕ} 0 1 = cc in omega arith))
+  done_read (Ok y) = (λ h. (y, refl, h), λ w. let z : y ≡ w.0 = cc in rw z w.2)
+  done_read (Err r) = (λ h. clash h refl, λ w. absurd (let z : ◌≡◌ {A = ℕ} 0 1 = cc in omega arith))
 
   number_done : (x : Reading) → (number_of x ≡ 0) ↔ ReadDone x
   number_done x =

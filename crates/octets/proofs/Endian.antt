@@ -1,6 +1,7 @@
 -- Little-endian fields of any width: what is written is read back, and what is read is written back. The 16- and 32-bit fields of
 -- document 01 ("The block") are the two widths at the end.
 use Rattle.std.proofs.Common.{◌≡◌, ℕ, zero, suc, ◌+◌, ◌*◌, ◌/◌, ◌%◌, ◌^◌, ◌<◌, ◌≤◌, List, [], ◌∷◌, ◌++◌, length, get_or, take, drop, refl, ap, ◌∙◌, div-lt_iff_lt-mul, pow-suc, arith, length-append, take_at, drop_at}
+use Rattle.std.specs.Int.{w32, to_le_bytes}
 use Rattle.octets.specs.Bytes.{word, quad, le16, le32, AreBytes}
 use Rattle.lists.proofs.Elements.{drop_one}
 
@@ -80,6 +81,14 @@ little_le32 x =
     let y : x / 256 ≡ 256 * (x / 65536) + x % 65536 / 256 = omega arith in
     let b : x / 256 % 256 ≡ x % 65536 / 256 % 256 = rw y (omega arith) in
     let c : x / 256 / 256 ≡ x / 65536 = omega arith in
+    rw (a, b, c)
+
+-- std's bytes of a number of 32 bits are those that the document's form says
+pub bytes_le32 : (x : ℕ) → to_le_bytes w32 x ≡ le32 x
+bytes_le32 x =
+    let a : x % 65536 % 256 ≡ x % 256 = omega arith in
+    let b : x % 65536 / 256 % 256 ≡ x / 256 % 256 = omega arith in
+    let c : x / 65536 / 256 % 256 ≡ x / 16777216 % 256 = omega arith in
     rw (a, b, c)
 
 pub word_written : (x i : ℕ) (p s : List ℕ) → length p ≡ i → x < 65536 → word (p ++ (le16 x ++ s)) i ≡ x

@@ -1,5 +1,6 @@
 -- Writing in place. Every writer of the crate says `overwrite`, so one law joins two writers side by side and one frames the rest.
-use Rattle.std.proofs.Common.{◌≡◌, ℕ, ◌+◌, ◌≤◌, List, [], ◌++◌, length, take, drop, sym, ap, ◌∙◌, append_assoc, arith, length-append, take-append-drop, length-take-le, drop-drop, take_at, drop_at}
+use Rattle.std.proofs.Common.{◌≡◌, ℕ, ◌+◌, ◌-◌, ◌≤◌, List, [], ◌++◌, length, take, drop, sym, ap, ◌∙◌, append_assoc, arith, length-append, take-append-drop, length-take-le, drop-drop, take_at, drop_at}
+use borrow.Rule.Slice.PartMut.{put_mid}
 use lib.Seq.{sets, sets-eq}
 use Rattle.octets.specs.Bytes.{overwrite}
 
@@ -7,6 +8,13 @@ use Rattle.octets.specs.Bytes.{overwrite}
 pub stored : (vs l : List ℕ) (i : ℕ) → i + length vs ≤ length l → sets l i vs ≡ overwrite i vs l
 unfolding overwrite
 stored vs l i h = sets-eq vs l i h ∙ append_assoc (take i l) vs (drop (i + length vs) l)
+
+-- a part of a list, from i up to e, replaced by as many elements
+pub part_replaced : (i e : ℕ) (vs l : List ℕ) → e ≡ i + length vs → put_mid i (e - i) l vs ≡ overwrite i vs l
+unfolding overwrite
+part_replaced i e vs l h =
+    let n : e - i ≡ length vs = omega arith in
+    rw (n, drop-drop (length vs) i l)
 
 -- nothing written
 pub overwrite_none : (i : ℕ) (l : List ℕ) → overwrite i [] l ≡ l

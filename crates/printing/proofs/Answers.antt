@@ -1,5 +1,7 @@
 -- A run in a room as long as its table: it answers neither 9 nor 16, and which room it is plays no part in what is printed of it.
 use Prim.Native.Nat.{ℕ, ◌≤◌}
+use Rattle.std.specs.Prelude.{Ok, Err}
+use Rattle.line.specs.Types.{Ending}
 use mathlib.Core.Path.{◌≡◌, refl, sym, ◌∙◌}
 use mathlib.Core.Bool.{Bool, true, false, cond}
 use mathlib.Core.Logic.{◌≢◌}
@@ -9,9 +11,6 @@ use lib.Dec.{eqb}
 use lib.ListN.{length}
 use borrow.Author.Tests.{eqb-true, le-leb}
 use Rattle.line.specs.declared.Refusal.TheVariants.{Malformed, Absent, NotInBag, Staying, Held, Full}
-use Rattle.line.specs.declared.Ending.{Ending}
-use Rattle.line.specs.declared.Ending.TheVariants.{Complete, Stopped}
-use Rattle.line.specs.declared.Answered.TheVariants.{Ended}
 use Rattle.line.specs.Answer.{ending_number, answer_number}
 use Rattle.table.specs.Blocks.{nodes, bytes_of}
 use Rattle.table.specs.Fault.{fault_of}
@@ -28,13 +27,13 @@ abbrev pub OfRun : ℕ → Type 0
 OfRun n = (n ≢ 9) × (n ≢ 16)
 
 ending_of_run : (e : Ending) → OfRun (ending_number e)
-ending_of_run Complete = omega arith
-ending_of_run (Stopped Malformed) = omega arith
-ending_of_run (Stopped Absent) = omega arith
-ending_of_run (Stopped NotInBag) = omega arith
-ending_of_run (Stopped Staying) = omega arith
-ending_of_run (Stopped (Held why)) = omega arith
-ending_of_run (Stopped Full) = omega arith
+ending_of_run (Ok _) = omega arith
+ending_of_run (Err Malformed) = omega arith
+ending_of_run (Err Absent) = omega arith
+ending_of_run (Err NotInBag) = omega arith
+ending_of_run (Err Staying) = omega arith
+ending_of_run (Err (Held why)) = omega arith
+ending_of_run (Err Full) = omega arith
 
 module _ (t steps room : List ℕ) (h : length t ≤ length room) where
   pub answer_of_run : OfRun (answer_number (outcome t steps room).answer)
@@ -49,7 +48,7 @@ module _ (t steps room : List ℕ) (h : length t ≤ length room) where
 -- the listing of a run that ended, with no word of the room
 ended_printed : (t steps room : List ℕ) → fault_of t ≡ 0
     → printed (ended_with (run_of t steps) room)
-    ≡ listing_text (Ended (run_of t steps).ending) (run_of t steps).steps (length (run_of t steps).line) (nodes (bytes_of (run_of t steps).line))
+    ≡ listing_text (Ok (run_of t steps).ending) (run_of t steps).steps (length (run_of t steps).line) (nodes (bytes_of (run_of t steps).line))
 unfolding printed
 ended_printed t steps room h = rw (table_in_ended t steps room h)
 

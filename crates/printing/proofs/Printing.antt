@@ -1,11 +1,12 @@
 -- What a run left is what the listing shows; what the program prints is the listing of the run, or the line of 16.
 use Prim.Native.Nat.{ℕ, ◌*◌}
+use Rattle.std.specs.Prelude.{Err}
 use mathlib.Core.Path.{◌≡◌, sym, subst}
 use mathlib.Core.Bool.{Bool, true, false}
 use mathlib.Core.List.{List, ◌++◌}
 use lib.ListN.{length, take, drop}
 use lib.Seq.{length-take-le}
-use Rattle.line.specs.declared.Answered.TheVariants.{Refused}
+use Rattle.line.specs.Answer.{told}
 use Rattle.table.specs.Blocks.{nodes}
 use Rattle.text.specs.Listing.{prints_stations, listing_text}
 use Rattle.finishing.specs.declared.Ran.{Ran}
@@ -20,7 +21,7 @@ written_length t steps room r left e = sym (length-take-le (512 * r.stations) le
 
 pub lists : (t steps room : List ℕ) (r : Ran) (left before after : List ℕ) (n : ℕ)
     → said r left ≡ outcome t steps room
-    → (n ≡ length (listing_text r.answer r.done r.stations (nodes (take (512 * r.stations) left)))) × (after ≡ listing_text r.answer r.done r.stations (nodes (take (512 * r.stations) left)) ++ drop n before)
+    → (n ≡ length (listing_text (told r.answer) r.done r.stations (nodes (take (512 * r.stations) left)))) × (after ≡ listing_text (told r.answer) r.done r.stations (nodes (take (512 * r.stations) left)) ++ drop n before)
     → Prints (printed (outcome t steps room)) before n after
 unfolding printed
 lists t steps room r left before after n e w = subst (λ (o : Outcome). Prints (printed o) before n after) e (record { filled = w.0; bytes = w.1 })
@@ -31,7 +32,7 @@ module _ (table steps : File) (fit : Bool) (e : fit ≡ files_hold table steps) 
   lists_run h w = rw (sym e, h) w
 
   pub lists_sixteen : fit ≡ false
-      → (n ≡ length (listing_text (Refused 16) 0 0 (nodes table.bytes))) × (after ≡ listing_text (Refused 16) 0 0 (nodes table.bytes) ++ drop n before)
+      → (n ≡ length (listing_text (Err 16) 0 0 (nodes table.bytes))) × (after ≡ listing_text (Err 16) 0 0 (nodes table.bytes) ++ drop n before)
       → Prints (program_text table steps) before n after
   unfolding program_outcome printed listing_text prints_stations
   lists_sixteen h w = rw (sym e, h) (record { filled = w.0; bytes = w.1 })

@@ -1,53 +1,33 @@
 // A file read into a buffer. No contract can say which bytes a file has; these say how much of the buffer was filled.
+ghost use Rattle.std.specs.Prelude.{IfSome};
 ghost use Rattle.printing.specs.Counts.{IsPrefixLen};
 
 use std::io::Read;
 use std::rt::Files;
 use std::{fs, str};
 
-// Whether the file could be read, and how many bytes were read of it: all, or as many as the buffer holds.
-#[derive(Clone, Copy)]
-pub struct Got {
-    pub is_read: bool,
-    pub n: usize,
-}
-
-// What is known of a file that cannot be read.
-const UNREAD: Got = Got {
-    is_read: false,
-    n: 0,
-};
-
-// Reads until the buffer is full or the file ends. A read that fails is told apart from the end.
-fn read_whole<R: Read>(file: &mut R, buf: &mut [u8]) -> Got
-    ensures { IsPrefixLen result.n buf.new }
+// Reads until the buffer is full or the file ends, and returns how many bytes were read; none where a read fails. No index is counted here:
+// each turn moves on by what the read gave, so the loop stays a `while`.
+fn read_whole<R: Read>(file: &mut R, buf: &mut [u8]) -> Option<usize>
+    ensures { IfSome result (λ n. IsPrefixLen n buf.new) }
 {
-    let n = buf.len();
     let mut done: usize = 0;
-    while done < n {
-        let Ok(k) = file.read(&mut buf[done..]) else {
-            return UNREAD;
-        };
-        if k == 0 {
+    while done < buf.len() {
+        let n = file.read(&mut buf[done..]).ok()?;
+        if n == 0 {
             break;
         }
-        done += k;
+        done += n;
     }
-    Got {
-        is_read: true,
-        n: done,
-    }
+    Some(done)
 }
 
-// A file that cannot be opened cannot be read, nor one whose path is no text; a directory opens, and its first read fails.
-pub fn read_file(rt: &impl Files, path: &[u8], buf: &mut [u8]) -> Got
-    ensures { IsPrefixLen result.n buf.new }
+// How many bytes were read of a file: all, or as many as the buffer holds. None where it cannot be opened, as where its path is no text, or
+// cannot be read, as a directory, which opens.
+pub fn read_file(rt: &impl Files, path: &[u8], buf: &mut [u8]) -> Option<usize>
+    ensures { IfSome result (λ n. IsPrefixLen n buf.new) }
 {
-    let Ok(path) = str::from_utf8(path) else {
-        return UNREAD;
-    };
-    let Ok(mut file) = fs::open(rt, path) else {
-        return UNREAD;
-    };
+    let path = str::from_utf8(path).ok()?;
+    let mut file = fs::open(rt, path).ok()?;
     read_whole(&mut file, buf)
 }

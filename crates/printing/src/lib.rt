@@ -12,7 +12,7 @@ ghost use Rattle.printing.specs.Program.{files_hold, program_room, program_text}
 
 use engine::run;
 use files::read_file;
-use line::Answered;
+use line::{Fault, Refused};
 use std::io;
 use std::rt::Files;
 use text::write_listing;
@@ -57,7 +57,7 @@ pub fn list_files(
     if files_hold(table_read, table, steps_read, steps) {
         return list_run(table, steps, out);
     }
-    write_listing(out, Answered::Refused(16), 0, 0, table)
+    write_listing(out, Err(Refused::Before(Fault::BadFile)), 0, 0, table)
 }
 
 // Reads the two files, each up to one byte over its limit, and prints their listing. A listing that cannot be written is an error; a file
@@ -72,6 +72,12 @@ pub fn print_listing(
     let t = read_file(rt, table_path, &mut table);
     let s = read_file(rt, steps_path, &mut steps);
     let mut out = [0u8; 40000];
-    let n = list_files(t.is_read, &table[..t.n], s.is_read, &steps[..s.n], &mut out);
+    let n = list_files(
+        t.is_some(),
+        &table[..t.unwrap_or(0)],
+        s.is_some(),
+        &steps[..s.unwrap_or(0)],
+        &mut out,
+    );
     rt.write_all(&out[..n])
 }

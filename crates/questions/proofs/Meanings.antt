@@ -1,6 +1,7 @@
 -- A question is asked of the line in written order, and answers what the statement of the paper says of the blocks in stored order, because
 -- both lines are alike. So it is of In line.
 use Prim.Native.Nat.{ℕ}
+use Rattle.std.specs.Prelude.{Ok, Err}
 use mathlib.Core.Path.{◌≡◌, refl, sym, ap}
 use mathlib.Core.Logic.{◌↔◌}
 use mathlib.Core.Bool.{Bool, true, false}
@@ -26,7 +27,6 @@ use Rattle.line.proofs.WrittenOrder.{written_order_keeps}
 use Rattle.table.specs.Blocks.{nodes, line_of}
 use Rattle.table.specs.Fault.{fault_of}
 use Rattle.table.proofs.Accepting.{table_accepted}
-use Rattle.questions.specs.declared.Told.TheVariants.{Refused, Yes}
 use Rattle.questions.specs.Told.{yes_no, asked, is_in_line}
 use Rattle.questions.specs.Claims.{InLineMeans}
 
@@ -92,7 +92,7 @@ pub answered : (t : List ℕ) {A : Type 0} (refuse : ℕ → A) (x : A) → faul
 answered t refuse x h = rw (eq-eqb (fault_of t) 0 h) refl
 
 -- which is yes exactly when the test holds
-yes_means : (b : Bool) → (yes_no b ≡ Yes) ↔ (b ≡ true)
+yes_means : (b : Bool) → (yes_no b ≡ Ok true) ↔ (b ≡ true)
 yes_means true = (λ e. refl, λ e. refl)
 yes_means false = (λ e. absurd (let z : ◌≡◌ {A = ℕ} 0 1 = cc in omega arith), λ e. clash e refl)
 
@@ -103,7 +103,7 @@ in_line_means t h =
     let a = reading_alike t h in
     let yes = yes_means (in_line (line_of t)) in
     let tested = in_line_tested (line_of t) (table_accepted t h).2.rising in
-    rw (answered t Refused (yes_no (in_line (line_of t))) h) (
+    rw (answered t Err (yes_no (in_line (line_of t))) h) (
       λ e. in_line_alike (line_of t) (nodes t) (alike_back a) (tested.0 (yes.0 e)),
       λ l. yes.1 (tested.1 (in_line_alike (nodes t) (line_of t) a l)),
     )

@@ -1,13 +1,12 @@
 -- Whether the neighbours of a table are in line: its stations one after another in the order of the index, each beside the one before and the
 -- one after.
 use Prim.Native.Nat.{ℕ, ◌+◌, ◌≤◌, ◌<◌}
+use Rattle.std.specs.Prelude.{Some, None}
+use Rattle.line.specs.Types.{Neighbour}
 use mathlib.Core.Path.{◌≡◌, refl, sym, ap, ◌∙◌}
 use mathlib.Core.Bool.{Bool, true, false, ◌&&◌, and_assoc}
 use mathlib.Core.List.{List}
-use lib.Dec.{eqb}
 use lib.ListN.{length, get_or, drop}
-use Rattle.line.specs.declared.Neighbour.{Neighbour}
-use Rattle.line.specs.declared.Neighbour.TheVariants.{None, Station}
 use Rattle.line.specs.declared.Station as declared
 use Rattle.line.specs.Node.{Node, number, with_bag_in_order}
 use Rattle.line.specs.InLine.{is_same, first, neighbours_after, neighbours_in_line}
@@ -19,29 +18,6 @@ use Rattle.table.specs.Fault.{fault_of}
 use Rattle.table.specs.Index.{index_of}
 use Rattle.table.proofs.Lines.{line_from, line_end, line_at}
 
--- whether two neighbours are the same
-module _ (a b : Neighbour) where
-  pub both_none : a ≡ None → b ≡ None → true ≡ is_same a b
-  unfolding is_same
-  both_none e f = rw (e, f)
-
-  pub none_some : (n : ℕ) → a ≡ None → b ≡ Station n → false ≡ is_same a b
-  unfolding is_same
-  none_some n e f = rw (e, f)
-
-  pub some_none : (m : ℕ) → a ≡ Station m → b ≡ None → false ≡ is_same a b
-  unfolding is_same
-  some_none m e f = rw (e, f)
-
-  pub both_some : (m n : ℕ) → a ≡ Station m → b ≡ Station n → eqb m n ≡ is_same a b
-  unfolding is_same
-  both_some m n e f = rw (e, f)
-
--- a station by its two sides
-pub both_sides : (s : declared.Station) (before after : Neighbour) {l r : Bool} → l ≡ is_same s.left before → r ≡ is_same s.right after
-    → (l && r) ≡ (is_same s.left before && is_same s.right after)
-both_sides s before after e f = rw (e, f)
-
 -- the stations before place i stand, and `before` is the last of them: whether the neighbours are in line is what is left to test
 pub record StandTo (t : List ℕ) (before : Neighbour) (i : ℕ) : Type 0 where
   pub is : neighbours_in_line (line_of t) ≡ neighbours_after before (drop i (line_of t))
@@ -52,7 +28,7 @@ stand_none t = record { is = refl }
 
 module _ (t index : List ℕ) (clean : fault_of t ≡ 0) (listed : index ≡ index_of t) where
   -- the station at place i, or none behind the last
-  pub present_some : (i : ℕ) → i < length index → {n : ℕ} → n ≡ number (node_of (block_at t (slot_in (get_or index i 0)))) → Station n ≡ first (drop i (line_of t))
+  pub present_some : (i : ℕ) → i < length index → {n : ℕ} → n ≡ number (node_of (block_at t (slot_in (get_or index i 0)))) → Some n ≡ first (drop i (line_of t))
   unfolding first with_bag_in_order
   present_some i h e = rw (line_from t index clean listed i h, line_at t index clean listed i h refl, e)
 
@@ -68,13 +44,13 @@ module _ (t index : List ℕ) (clean : fault_of t ≡ 0) (listed : index ≡ ind
       unfolding with_bag_in_order node_of
       here = ap (λ (z : Node). z.station) (line_at t index clean listed i h read) ∙ sym station
 
-      next : neighbours_in_line (line_of t) ≡ (x && neighbours_after (Station s.number) (drop (i + 1) (line_of t)))
+      next : neighbours_in_line (line_of t) ≡ (x && neighbours_after (Some s.number) (drop (i + 1) (line_of t)))
       unfolding neighbours_after
       next =
           let n : number (place (line_of t) i) ≡ s.number = ap (λ (z : declared.Station). z.number) here in
           so_far.is ∙ rw (line_from t index clean listed i h, here, n, ← behind, tells, and_assoc)
 
-      pub stand_next : x ≡ true → StandTo t (Station s.number) (i + 1)
+      pub stand_next : x ≡ true → StandTo t (Some s.number) (i + 1)
       stand_next y = record { is = next ∙ rw y }
 
       pub stand_not : x ≡ false → false ≡ neighbours_in_line (line_of t)

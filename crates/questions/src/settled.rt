@@ -10,22 +10,19 @@ ghost use Rattle.table.specs.Blocks.{line_of};
 ghost use Rattle.table.specs.Fault.{fault_of};
 ghost use Rattle.table.specs.Index.{index_of};
 
-use block::places::place_at;
+use block::messages::any_message;
 use block::station_of;
-use fields::message_of;
 use line::{Content, Message};
-use octets::word_at;
 use table::block_at;
 
 // Whether a message is a remove-left or a remove-right.
+#[tactic(auto, unfolding(line::specs::Message::is_removal, line::specs::Message::removal, line::specs::Message::same))]
 fn is_removal(message: Message) -> bool
     ensures { result ≡ is_removal message }
 {
-    let content = message.content;
-    match content {
+    match message.content {
         Content::Introduction(_) => false,
-        Content::RemoveLeft => true,
-        Content::RemoveRight => true,
+        Content::RemoveLeft | Content::RemoveRight => true,
     }
 }
 
@@ -34,27 +31,16 @@ fn holds_removal(b: &[u8]) -> bool
     requires { (length b.now ≡ 512) × (word b.now 16 ≤ 32) }
     ensures { result ≡ any is_removal (messages b.now (word b.now 16)) }
 {
-    let n = word_at(b, 16) as usize;
-    let mut i = 0;
-    while i < n {
-        if is_removal(message_of(place_at(b, i))) {
-            return true;
-        }
-        i += 1;
-    }
-    false
+    any_message(b, is_removal)
 }
 
 // Whether the station of a block stays and its bag holds no removal.
+#[tactic(auto, unfolding(line::specs::InLine::is_quiet, block::specs::Layout::node_of))]
 fn is_settled(b: &[u8]) -> bool
     requires { (length b.now ≡ 512) × (word b.now 16 ≤ 32) }
     ensures { result ≡ (is_quiet (node_of b.now) && stays (node_of b.now)) }
 {
-    let station = station_of(b);
-    let marks = station.marks;
-    let stays = !marks.leaving;
-    let quiet = !holds_removal(b);
-    quiet & stays
+    !holds_removal(b) && !station_of(b).marks.leaving
 }
 
 // Of an accepted table and its index: whether every station is settled.
@@ -63,12 +49,9 @@ pub fn all_settled(table: &[u8], index: &[u64]) -> bool
     requires index_value { index.now ≡ index_of table.now }
     ensures { result ≡ (all is_quiet (line_of table.now) && all stays (line_of table.now)) }
 {
-    let mut i = 0;
-    while i < index.len() {
-        let k = (index[i] % 64) as usize;
-        if is_settled(block_at(table, k)) {
-            i += 1;
-        } else {
+    for entry in index {
+        let k = (*entry % 64) as usize;
+        if !is_settled(block_at(table, k)) {
             return false;
         }
     }

@@ -1,5 +1,7 @@
 -- The step that a run stopped at, where the station was held: it stands in the step list after the steps done.
 use Prim.Native.Nat.{ℕ, zero, suc, ◌+◌, ◌/◌}
+use Rattle.std.specs.Prelude.{Ok, Err}
+use Rattle.line.specs.Types.{Reading}
 use mathlib.Core.Path.{◌≡◌, refl}
 use mathlib.Core.List.{List, ◌∷◌, map}
 use native.Mathlib.Omega.{arith}
@@ -8,9 +10,6 @@ use Rattle.lists.specs.Places.{range}
 use Rattle.line.specs.declared.Step as declared
 use Rattle.line.specs.declared.Reason.{Reason}
 use Rattle.line.specs.declared.Refusal.TheVariants.{Held}
-use Rattle.line.specs.declared.Reading.{Reading}
-use Rattle.line.specs.declared.Reading.TheVariants.{Step, Refused}
-use Rattle.line.specs.declared.Ending.TheVariants.{Stopped}
 use Rattle.line.specs.Answer.{refused}
 use Rattle.line.specs.Node.{Line}
 use Rattle.line.specs.Step.{step}
@@ -29,16 +28,16 @@ first_left f a (suc n) (suc k) j h e = first_left f (suc a) n k j (omega arith) 
 -- a step was read there, and it is held in the line
 pub record HeldAt (steps : List ℕ) (k : ℕ) (line : Line) (why : Reason) : Type 0 where
   pub held : declared.Step
-  pub read : step_at steps k ≡ Step held
+  pub read : step_at steps k ≡ Ok held
   pub refuses : step line held ≡ refused (Held why)
 
 module _ (steps : List ℕ) (k : ℕ) (line : Line) (why : Reason) where
   -- a record that is no step is refused as malformed
   tried : (x : Reading) → step_at steps k ≡ x → try line x ≡ refused (Held why) → HeldAt steps k line why
   unfolding try
-  tried (Step y) e h = record { held = y; read = e; refuses = h }
-  tried (Refused r) e h = let m = read_malformed steps k (rw e refl) in absurd (let z : ◌≡◌ {A = ℕ} 0 1 = cc in omega arith)
+  tried (Ok y) e h = record { held = y; read = e; refuses = h }
+  tried (Err r) e h = let m = read_malformed steps k r e in absurd (let z : ◌≡◌ {A = ℕ} 0 1 = cc in omega arith)
 
-  pub stopped_at : EndsAt (steps_of steps) k line (Stopped (Held why)) → HeldAt steps k line why
+  pub stopped_at : EndsAt (steps_of steps) k line (Err (Held why)) → HeldAt steps k line why
   unfolding steps_of
   stopped_at w = tried w.0 (first_left (step_at steps) 0 (length steps / 12) k k (omega arith) w.2) w.3

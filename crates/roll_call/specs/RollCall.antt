@@ -1,5 +1,7 @@
 -- The roll call (document 02, T-03).
-use Rattle.std.specs.Prelude.{ℕ, ◌≡◌, cond, List, map, eqb, leb, length}
+use Rattle.std.specs.Prelude.{ℕ, ◌≡◌, cond, List, map, eqb, leb, length, Result, IfOk}
+use Rattle.line.specs.declared.Fault.{Fault}
+use Rattle.line.specs.Answer.{checked_number}
 use Rattle.table.specs.Fault.{fault_of}
 use Rattle.leave.specs.declared.records.LeaveRecord.{LeaveRecord}
 use Rattle.leave.specs.Leave.{leave_as, may_leave}
@@ -24,11 +26,15 @@ roll_call table stations records =
     (unless_fault (too_many (length stations)) (filled_with (length stations) (map (record_of table) stations) records) records)
     records
 
--- A roll of a table: its number, and what it says of every station of an accepted one is the single question's answer.
-pub record Rolls (table : List ℕ) (r : Roll) : Type 0 where
-  pub fault_is : r.fault ≡ fault_of table
+-- A roll of an accepted table: what it says of every station is the single question's answer.
+pub record Tells (table : List ℕ) (r : Roll) : Type 0 where
   pub kept : Kept r
-  pub told : fault_of table ≡ 0 → (station : ℕ) → told_in r station ≡ may_leave table station
+  pub told : (station : ℕ) → told_in r station ≡ may_leave table station
+
+-- what is read of a table: the number of one that is refused, or its roll
+pub record Rolls (table : List ℕ) (r : Result Roll Fault) : Type 0 where
+  pub fault_is : checked_number r ≡ fault_of table
+  pub tells : IfOk r (λ roll. Tells table roll)
 
 -- the number and the amount, of the table's number and of how many questions and records there are
 unfoldable pub gate_of : ℕ → ℕ → ℕ → Filled

@@ -8,68 +8,45 @@ ghost use Rattle.roll_call.specs.RollCall.{Rolls, gate_of, roll_call};
 use arrays::read_counts;
 use filling::Filled;
 use leave::records::LeaveRecord;
+use line::Fault;
 use mentions::count_mentions;
 use rolls::{Roll, fill};
 use table::inspect;
 
-// What a table says of its stations, for all questions at once.
-fn read_roll(table: &[u8]) -> Roll
+// What an accepted table says of its stations, for all questions at once.
+fn read_roll(table: &[u8]) -> Result<Roll, Fault>
     ensures { Rolls table.now result }
 {
-    let inspected = inspect(table);
-    let index = inspected.index;
-    let mut mentions = [0u32; 64];
-    let mut smallest = [4294967295u32; 64];
-    if inspected.fault != 0 {
-        return Roll {
-            fault: inspected.fault,
-            count: 0,
-            index,
-            messages: [0usize; 64],
-            mentions,
-            smallest,
-        };
-    }
+    let index = inspect(table)?;
     let count = table.len() / 512;
     let messages = read_counts(table);
+    let mut mentions = [0u32; 64];
+    let mut smallest = [u32::MAX; 64];
     count_mentions(
         table,
         &index[..count],
         &mut mentions[..count],
         &mut smallest[..count],
     );
-    Roll {
-        fault: 0,
+    Ok(Roll {
         count,
         index,
         messages,
         mentions,
         smallest,
-    }
+    })
 }
 
-// "It refuses with 1 to 7, then 17 for more than 64 questions, then 9 for a list shorter than the questions."
-#[tactic(auto, using(crate::proofs::Amount::gate_answers))]
-fn gate(roll: Roll, stations: usize, records: usize) -> Filled
-    ensures { result ≡ gate_of roll.fault stations records }
+// Of an accepted table: "then 17 for more than 64 questions, then 9 for a list shorter than the questions."
+#[tactic(auto, unfolding(crate::specs::RollCall::gate_of))]
+fn gate(stations: usize, records: usize) -> Filled
+    ensures { result ≡ gate_of 0 stations records }
 {
-    if roll.fault != 0 {
-        return Filled {
-            answer: roll.fault,
-            filled: 0,
-        };
-    }
     if 64 < stations {
-        return Filled {
-            answer: 17,
-            filled: 0,
-        };
+        return Filled::refused(Fault::TooMuch);
     }
     if records < stations {
-        return Filled {
-            answer: 9,
-            filled: 0,
-        };
+        return Filled::refused(Fault::ShortRoom);
     }
     Filled {
         answer: 0,
@@ -82,16 +59,18 @@ fn answered(stations: &[u32], filled: Filled) -> &[u32]
     requires { filled.filled ≤ length stations.now }
     ensures { result.now ≡ take filled.filled stations.now }
 {
-    let end = filled.filled as usize;
-    &stations[0..end]
+    &stations[..filled.filled as usize]
 }
 
-// The roll call. There is no branch here: beside a refusal no question is answered, and so nothing is filled.
+// The roll call. "It refuses with 1 to 7", and beside a later refusal no question is answered, and so nothing is filled.
 pub fn roll_call(table: &[u8], stations: &[u32], records: &mut [LeaveRecord]) -> Filled
     ensures { filled_as result records.new ≡ roll_call table.now stations.now records.old }
 {
-    let roll = read_roll(table);
-    let filled = gate(roll, stations.len(), records.len());
+    let roll = match read_roll(table) {
+        Ok(roll) => roll,
+        Err(fault) => return Filled::refused(fault),
+    };
+    let filled = gate(stations.len(), records.len());
     let asked = answered(stations, filled);
     fill(roll, asked, records);
     filled

@@ -1,20 +1,17 @@
 -- What a roll says of a station (document 02, T-03).
-use Rattle.std.specs.Prelude.{ℕ, ◌≤◌, cond, List, eqb, ltb, length, get_or, take}
+use Rattle.std.specs.Prelude.{ℕ, ◌≤◌, cond, List, eqb, ltb, length, get_or, take, Ok, Err}
+use Rattle.line.specs.Types.{Leave}
 use Rattle.lists.specs.Places.{first_at}
 use Rattle.lists.specs.Numbers.{Rising}
 use Rattle.line.specs.declared.Reason.TheVariants.{OwnBag, HeldBy}
-use Rattle.line.specs.declared.Leave.{Leave}
-use Rattle.line.specs.declared.Leave.TheVariants.{May, MayNot}
 use Rattle.index.specs.Index.{slot_in, numbers_in}
-use Rattle.leave.specs.declared.LeaveTold.{LeaveTold}
-use Rattle.leave.specs.declared.LeaveTold.TheVariants.{Refused, Told}
 use Rattle.leave.specs.declared.records.LeaveRecord.{LeaveRecord}
-use Rattle.leave.specs.Leave.{leave_as}
+use Rattle.leave.specs.Leave.{leave_as, LeaveTold}
 use Rattle.rolls.specs.declared.Roll.{Roll}
 
 -- of a station with so many messages, mentioned so often by others, of whom this one is the smallest: "The bag is looked at first"
 abbrev pub leave_counted : ℕ → ℕ → ℕ → Leave
-leave_counted messages mentioned smallest = cond (eqb messages 0) (cond (eqb mentioned 0) May (MayNot (HeldBy smallest))) (MayNot OwnBag)
+leave_counted messages mentioned smallest = cond (eqb messages 0) (cond (eqb mentioned 0) (Ok tt) (Err (HeldBy smallest))) (Err OwnBag)
 
 -- the station numbers of a roll, by rising number
 abbrev pub numbers_of : Roll → List ℕ
@@ -32,7 +29,7 @@ leave_in r i = leave_counted (get_or r.messages (slot_in (get_or r.index i 0)) 0
 
 -- "An unknown number gets 11 in its own record only."
 unfoldable pub told_at : Roll → ℕ → LeaveTold
-told_at r i = cond (ltb i r.count) (Told (leave_in r i)) (Refused 11)
+told_at r i = cond (ltb i r.count) (Ok (leave_in r i)) (Err 11)
 
 -- station n
 abbrev pub told_in : Roll → ℕ → LeaveTold

@@ -3,19 +3,17 @@
 #![tactic(auto)]
 
 ghost use Rattle.std.specs.Prelude.{◌≡◌, ◌++◌, map, ◌<◌, ◌≤◌, length, get_or, drop};
+ghost use Rattle.line.specs.Answer.{refused_number, numbered};
 ghost use Rattle.rolls.specs.Roll.{Kept, leave_counted, told_in, record_in};
 
 use index::lookup;
-use leave::LeaveTold;
 use leave::records::{LeaveRecord, leave_as};
-use line::{Leave, Reason};
+use line::{Leave, Reason, Refusal, Refused};
 
-// The number of the table, 1 to 7 or 0. Of an accepted table the index of its `count` stations by rising number; how many messages the station
-// of each slot has; and by place in the index how often others mention a station, and the smallest that does. Of a refused one there is no
-// station.
+// Of an accepted table the index of its `count` stations by rising number; how many messages the station of each slot has; and by place in the
+// index how often others mention a station, and the smallest that does.
 #[derive(Clone, Copy)]
 pub struct Roll {
-    pub fault: u32,
     pub count: usize,
     pub index: [u64; 64],
     pub messages: [usize; 64],
@@ -29,35 +27,26 @@ fn leave_counted(messages: usize, mentions: u32, smallest: u32) -> Leave
     ensures { result ≡ leave_counted messages mentions smallest }
 {
     if messages != 0 {
-        return Leave::MayNot(Reason::OwnBag);
+        return Err(Reason::OwnBag);
     }
     if mentions == 0 {
-        return Leave::May;
+        return Ok(());
     }
-    Leave::MayNot(Reason::HeldBy(smallest))
+    Err(Reason::HeldBy(smallest))
 }
 
 // "An unknown number gets 11 in its own record only."
-fn ask(roll: Roll, station: u32) -> LeaveTold
-    requires { Kept roll }
-    ensures { result ≡ told_in roll station }
+#[tactic(auto, unfolding(crate::specs::Roll::told_at, crate::specs::Roll::leave_in))]
+fn ask(roll: &Roll, station: u32) -> Result<Leave, Refused>
+    requires { Kept roll.now }
+    ensures { numbered refused_number result ≡ told_in roll.now station }
 {
-    let n = roll.count;
-    let index = roll.index;
-    let i = lookup(&index[..n], station);
-    if n <= i {
-        return LeaveTold::Refused(11);
+    let i = lookup(&roll.index[..roll.count], station);
+    if roll.count <= i {
+        return Err(Refused::Step(Refusal::Absent));
     }
-    let slot = (index[i] % 64) as usize;
-    LeaveTold::Told(leave_counted(roll.messages[slot], roll.mentions[i], roll.smallest[i]))
-}
-
-// The record of question i.
-fn ask_at(roll: Roll, stations: &[u32], i: usize) -> LeaveRecord
-    requires { Kept roll × (i < length stations.now) }
-    ensures { result ≡ record_in roll (get_or stations.now i 0) }
-{
-    leave_as(ask(roll, stations[i]))
+    let slot = (roll.index[i] % 64) as usize;
+    Ok(leave_counted(roll.messages[slot], roll.mentions[i], roll.smallest[i]))
 }
 
 // "one record per question", in the order of the questions; the records past them stay.
@@ -65,9 +54,7 @@ pub fn fill(roll: Roll, stations: &[u32], records: &mut [LeaveRecord])
     requires { Kept roll × (length stations.now ≤ length records.old) }
     ensures { records.new ≡ map (record_in roll) stations.now ++ drop (length stations.now) records.old }
 {
-    let mut i: usize = 0;
-    while i < stations.len() {
-        records[i] = ask_at(roll, stations, i);
-        i += 1;
+    for (i, station) in stations.iter().enumerate() {
+        records[i] = leave_as(ask(&roll, *station));
     }
 }

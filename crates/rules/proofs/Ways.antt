@@ -1,14 +1,13 @@
 -- One law for each way through the code: what was tested and what was called give what the rules say. Each premise is one fact of the way,
 -- as the code has it, so that `search` finds it.
 use mathlib.Core.Path.{◌≡◌, refl, sym, ap, ap₂, ◌∙◌}
+use Rattle.std.specs.Prelude.{Some, None, Ok, Err, Option}
+use Rattle.line.specs.Types.{Leave, Neighbour}
 use mathlib.Core.Bool.{Bool, true, false, cond, not}
 use mathlib.Core.List.{List, [], ◌++◌, append-nil}
-use mathlib.Core.Option.{none, some}
 use Prim.Native.Nat.{ℕ, ◌≤◌, ◌<◌}
 use lib.Dec.{eqb}
 use borrow.Author.Tests.{eq-eqb, ne_eqb, lt-ltb, le-ltb, not-true, not-false}
-use Rattle.line.specs.declared.Neighbour.{Neighbour}
-use Rattle.line.specs.declared.Neighbour.TheVariants.{None, Station}
 use Rattle.line.specs.declared.Content.{Content}
 use Rattle.line.specs.declared.Content.TheVariants.{Introduction, RemoveLeft, RemoveRight}
 use Rattle.line.specs.declared.Message.{Message}
@@ -18,8 +17,6 @@ use Rattle.line.specs.declared.Side.TheVariants.{Left, Right}
 use Rattle.line.specs.declared.Action.{Action}
 use Rattle.line.specs.declared.Action.TheVariants.{Timeout, Deliver, Exit}
 use Rattle.line.specs.declared.Reason.{Reason}
-use Rattle.line.specs.declared.Leave.{Leave}
-use Rattle.line.specs.declared.Leave.TheVariants.{May, MayNot}
 use Rattle.line.specs.declared.Refusal.{Refusal}
 use Rattle.line.specs.declared.Refusal.TheVariants.{NotInBag, Staying, Held}
 use Rattle.line.specs.Answer.{refused, done, require, unless_held}
@@ -33,10 +30,8 @@ use Rattle.lists.proofs.Lists.{clash}
 use Rattle.delivery.specs.Lemma3.{below, equal, on_side, introduced}
 use Rattle.delivery.proofs.Agreement.{order_agrees}
 use Rattle.rules.specs.declared.Sending.{Sending}
-use Rattle.rules.specs.declared.Sending.TheVariants.{Nothing, To}
 use Rattle.rules.specs.declared.Sendings.{Sendings}
 use Rattle.rules.specs.declared.Reacted.{Reacted}
-use Rattle.rules.specs.declared.Verdict.TheVariants.{Done, Refused}
 use Rattle.rules.specs.declared.Decision.{Decision}
 use Rattle.rules.specs.Decided.{sent, both_sent, reaction, is_found, rest, effect, decided, Decides}
 
@@ -60,11 +55,11 @@ module _ (d : Side) where
 
 -- A message to a neighbour that there is.
 module _ (n : Neighbour) (m : Message) where
-  pub sent_none : n ≡ None → sent Nothing ≡ send_to n m
+  pub sent_none : n ≡ None → sent None ≡ send_to n m
   unfolding send_to
   sent_none e = rw e
 
-  pub sent_one : (q : ℕ) → n ≡ Station q → sent (To q m) ≡ send_to n m
+  pub sent_one : (q : ℕ) → n ≡ Some q → sent (Some (record { to = q; message = m })) ≡ send_to n m
   unfolding send_to
   sent_one q e = rw e
 
@@ -78,7 +73,7 @@ module _ (p : declared.Station) (d : Side) (m : Message) where
   unfolding notice
   notice_staying e g = g ∙ sym (ap (λ (t : Bool). cond t (removal (opposite d)) (introduction p.number)) e)
 
-pub timed_out : (p : declared.Station) (m k : Message) (a b : Sending) → m ≡ notice p Left → k ≡ notice p Right → sent a ≡ send_to p.left m → sent b ≡ send_to p.right k
+pub timed_out : (p : declared.Station) (m k : Message) (a b : Option Sending) → m ≡ notice p Left → k ≡ notice p Right → sent a ≡ send_to p.left m → sent b ≡ send_to p.right k
     → both_sent (record { first = a; second = b }) ≡ timeout p
 unfolding timeout
 timed_out p m k a b e f g h = ap₂ (λ (x y : List Send). x ++ y) (g ∙ ap (send_to p.left) e) (h ∙ ap (send_to p.right) f)
@@ -94,7 +89,7 @@ module _ (id : ℕ) (n : Neighbour) (d : Side) where
   unfolding below less left_id right_id
   below_none e = rw e (on_each (λ d. true ≡ below d id (variable d None)) refl refl d)
 
-  pub below_station : (q : ℕ) {b : Bool} → n ≡ Station q → b ≡ beyond d id q → b ≡ below d id (variable d n)
+  pub below_station : (q : ℕ) {b : Bool} → n ≡ Some q → b ≡ beyond d id q → b ≡ below d id (variable d n)
   unfolding below less beyond
   below_station q e f = rw (e, variable_station d q) (f ∙ on_each (λ d. beyond d id q ≡ below d id (process q)) refl refl d)
 
@@ -102,21 +97,21 @@ module _ (id : ℕ) (n : Neighbour) (d : Side) where
   unfolding equal left_id right_id
   equal_none e = rw e (on_each (λ d. false ≡ equal id (variable d None)) refl refl d)
 
-  pub equal_station : (q : ℕ) → n ≡ Station q → eqb id q ≡ equal id (variable d n)
+  pub equal_station : (q : ℕ) → n ≡ Some q → eqb id q ≡ equal id (variable d n)
   unfolding equal
   equal_station q e = rw (e, variable_station d q)
 
-  pub nothing_introduced : n ≡ None → sent Nothing ≡ mail (Intro (variable d n)) (process id)
+  pub nothing_introduced : n ≡ None → sent None ≡ mail (Intro (variable d n)) (process id)
   unfolding mail left_id right_id
-  nothing_introduced e = rw e (on_each (λ d. sent Nothing ≡ mail (Intro (variable d None)) (process id)) refl refl d)
+  nothing_introduced e = rw e (on_each (λ d. sent None ≡ mail (Intro (variable d None)) (process id)) refl refl d)
 
-  pub one_introduced : (q : ℕ) (m : Message) → n ≡ Station q → m ≡ introduction q → sent (To id m) ≡ mail (Intro (variable d n)) (process id)
+  pub one_introduced : (q : ℕ) (m : Message) → n ≡ Some q → m ≡ introduction q → sent (Some (record { to = id; message = m })) ≡ mail (Intro (variable d n)) (process id)
   unfolding mail
   one_introduced q m e f = rw (e, variable_station d q, f)
 
 -- An introduction of id, who lies on side d of p, where the neighbour is n: below, equal and above; t is p afterwards.
 module _ (d : Side) (p : declared.Station) (id : ℕ) (n : Neighbour) (b : Bool) (f : b ≡ below d id (variable d n)) where
-  pub on_below : (t : declared.Station) (x : Sending) → b ≡ true → t ≡ with_neighbour d (Station id) p → ((e : Side) → sent x ≡ mail (Intro (variable e n)) (process id))
+  pub on_below : (t : declared.Station) (x : Option Sending) → b ≡ true → t ≡ with_neighbour d (Some id) p → ((e : Side) → sent x ≡ mail (Intro (variable e n)) (process id))
       → reaction (record { station = t; sending = x }) ≡ on_side d p id (variable d n)
   unfolding on_side
   on_below t x i g h = rw (← f, i, g, h d)
@@ -126,7 +121,7 @@ module _ (d : Side) (p : declared.Station) (id : ℕ) (n : Neighbour) (b : Bool)
     unfolding on_side
     on_equal x i k g = g ∙ rw (← f, i, ← h d, k)
 
-    pub on_above : (m : Message) (x : Sending) → b ≡ false → c ≡ false → m ≡ introduction id → sent x ≡ send_to n m
+    pub on_above : (m : Message) (x : Option Sending) → b ≡ false → c ≡ false → m ≡ introduction id → sent x ≡ send_to n m
         → reaction (record { station = p; sending = x }) ≡ on_side d p id (variable d n)
     unfolding on_side
     on_above m x i k e g = ap (λ (l : List Send). record { station = p; sends = l }) (g ∙ ap (send_to n) e ∙ sym (intro_to d id n)) ∙ rw (← f, i, ← h d, k)
@@ -137,8 +132,8 @@ module _ (d : Side) (p : declared.Station) (n : Neighbour) where
   unfolding drop_neighbour
   dropped_none x e h = h ∙ rw e
 
-  pub dropped : (r : ℕ) (t : declared.Station) (m : Message) → n ≡ Station r → t ≡ with_neighbour d None p → m ≡ introduction p.number
-      → reaction (record { station = t; sending = To r m }) ≡ drop_neighbour d p n
+  pub dropped : (r : ℕ) (t : declared.Station) (m : Message) → n ≡ Some r → t ≡ with_neighbour d None p → m ≡ introduction p.number
+      → reaction (record { station = t; sending = Some (record { to = r; message = m }) }) ≡ drop_neighbour d p n
   unfolding drop_neighbour
   dropped r t m e f g = rw (e, f, g)
 
@@ -179,57 +174,57 @@ module _ (x : Reacted) (p : declared.Station) where
     received_right e h = rw e h
 
 -- Both neighbours, or not.
-none_sent : (x : Sendings) → (x.first ≡ Nothing) × (x.second ≡ Nothing) → both_sent x ≡ []
+none_sent : (x : Sendings) → (x.first ≡ None) × (x.second ≡ None) → both_sent x ≡ []
 none_sent x h = rw (h.0, h.1)
 
 module _ (a b : Neighbour) where
-  pub no_left : (x : Sendings) → a ≡ None → (x.first ≡ Nothing) × (x.second ≡ Nothing) → both_sent x ≡ introduce_both a b
+  pub no_left : (x : Sendings) → a ≡ None → (x.first ≡ None) × (x.second ≡ None) → both_sent x ≡ introduce_both a b
   unfolding introduce_both
   no_left x e h = none_sent x h ∙ rw e
 
-  pub no_right : (x : Sendings) (l : ℕ) → a ≡ Station l → b ≡ None → (x.first ≡ Nothing) × (x.second ≡ Nothing) → both_sent x ≡ introduce_both a b
+  pub no_right : (x : Sendings) (l : ℕ) → a ≡ Some l → b ≡ None → (x.first ≡ None) × (x.second ≡ None) → both_sent x ≡ introduce_both a b
   unfolding introduce_both
   no_right x l e f h = none_sent x h ∙ rw (e, f)
 
-  pub both_introduced : (l r : ℕ) (m k : Message) → a ≡ Station l → b ≡ Station r → m ≡ introduction r → k ≡ introduction l
-      → both_sent (record { first = To l m; second = To r k }) ≡ introduce_both a b
+  pub both_introduced : (l r : ℕ) (m k : Message) → a ≡ Some l → b ≡ Some r → m ≡ introduction r → k ≡ introduction l
+      → both_sent (record { first = Some (record { to = l; message = m }); second = Some (record { to = r; message = k }) }) ≡ introduce_both a b
   unfolding introduce_both
   both_introduced l r m k e f g h = rw (e, f, g, h)
 
 -- Refusals: d is what the call gave.
 module _ (l : Leave) (s : declared.Station) (b : List Message) (d : Decision) where
-  refuses : (r : Refusal) {a : Action} → (d.verdict ≡ Refused r) × (d.gone ≡ false) → act l (record { station = s; bag = b }) a ≡ refused r → Decides l s b a d
+  refuses : (r : Refusal) {a : Action} → (d.verdict ≡ Err r) × (d.gone ≡ false) → act l (record { station = s; bag = b }) a ≡ refused r → Decides l s b a d
   refuses r {a} e g = record { says = ap (λ v. decided v (effect d (rest a b))) e.0 ∙ sym g; itself = λ h. clash h e.1 }
 
-  pub not_in_bag : (m : Message) (found : Bool) → found ≡ false → (d.verdict ≡ Refused NotInBag) × (d.gone ≡ false) → found ≡ holds m b → Decides l s b (Deliver m) d
+  pub not_in_bag : (m : Message) (found : Bool) → found ≡ false → (d.verdict ≡ Err NotInBag) × (d.gone ≡ false) → found ≡ holds m b → Decides l s b (Deliver m) d
   unfolding act require
   not_in_bag m found i e h = refuses NotInBag e (rw (sym h ∙ i))
 
-  pub exit_staying : not s.marks.leaving ≡ true → (d.verdict ≡ Refused Staying) × (d.gone ≡ false) → Decides l s b Exit d
+  pub exit_staying : not s.marks.leaving ≡ true → (d.verdict ≡ Err Staying) × (d.gone ≡ false) → Decides l s b Exit d
   unfolding act require
   exit_staying h e =
       refuses Staying e
-      (ap (λ t. require t Staying (unless_held l (done (record { after = none; sends = introduce_both s.left s.right })))) (not-true s.marks.leaving h))
+      (ap (λ t. require t Staying (unless_held l (done (record { after = None; sends = introduce_both s.left s.right })))) (not-true s.marks.leaving h))
 
-  pub exit_held : not s.marks.leaving ≡ false → (why : Reason) → l ≡ MayNot why → (d.verdict ≡ Refused (Held why)) × (d.gone ≡ false) → Decides l s b Exit d
+  pub exit_held : not s.marks.leaving ≡ false → (why : Reason) → l ≡ Err why → (d.verdict ≡ Err (Held why)) × (d.gone ≡ false) → Decides l s b Exit d
   unfolding act require unless_held
   exit_held h why i e = refuses (Held why) e (rw (not-false s.marks.leaving h, i))
 
 -- What is done.
 module _ (l : Leave) (s : declared.Station) (b : List Message) where
-  pub exits : (p : Sendings) → not s.marks.leaving ≡ false → l ≡ May → both_sent p ≡ introduce_both s.left s.right
-      → Decides l s b Exit (record { verdict = Done; gone = true; station = s; sendings = p })
+  pub exits : (p : Sendings) → not s.marks.leaving ≡ false → l ≡ Ok tt → both_sent p ≡ introduce_both s.left s.right
+      → Decides l s b Exit (record { verdict = Ok tt; gone = true; station = s; sendings = p })
   unfolding act require unless_held
   exits p h k e = record {
-    says = ap (λ (l : List Send). done (record { after = none; sends = l })) e ∙ sym (rw (not-false s.marks.leaving h, k));
+    says = ap (λ (l : List Send). done (record { after = None; sends = l })) e ∙ sym (rw (not-false s.marks.leaving h, k));
     itself = λ z. refl;
   }
 
   pub delivers : (m : Message) (found : Bool) (r : Reacted) → found ≡ true → reaction r ≡ received s m.content → found ≡ holds m b
-      → Decides l s b (Deliver m) (record { verdict = Done; gone = false; station = r.station; sendings = record { first = r.sending; second = Nothing } })
+      → Decides l s b (Deliver m) (record { verdict = Ok tt; gone = false; station = r.station; sendings = record { first = r.sending; second = None } })
   unfolding act require
   delivers m found r f e h = record {
-    says = ap (λ (u : Reaction). done (record { after = some (record { station = u.station; bag = remove m b }); sends = u.sends })) (sends_one ∙ e)
+    says = ap (λ (u : Reaction). done (record { after = Some (record { station = u.station; bag = remove m b }); sends = u.sends })) (sends_one ∙ e)
         ∙ sym (ap (λ (h : Bool). require h NotInBag (done (kept (remove m b) (received s m.content)))) (sym h ∙ f));
     itself = λ z. clash z refl;
   }
@@ -240,10 +235,10 @@ module _ (l : Leave) (s : declared.Station) (b : List Message) where
 
   -- by the action
   module _ (a : Action) where
-    pub timeout_decides : (p : Sendings) → a ≡ Timeout → both_sent p ≡ timeout s → Decides l s b a (record { verdict = Done; gone = false; station = s; sendings = p })
+    pub timeout_decides : (p : Sendings) → a ≡ Timeout → both_sent p ≡ timeout s → Decides l s b a (record { verdict = Ok tt; gone = false; station = s; sendings = p })
     unfolding act
     timeout_decides p i e = rw i (record {
-      says = ap (λ (l : List Send). done (record { after = some (record { station = s; bag = b }); sends = l })) e;
+      says = ap (λ (l : List Send). done (record { after = Some (record { station = s; bag = b }); sends = l })) e;
       itself = λ z. refl;
     })
 

@@ -1,26 +1,22 @@
 -- What the code's answers say in the terms of the step rules (document 01, "What a step does at station p").
-use Rattle.std.specs.Prelude.{◌≡◌, Bool, true, false, cond, List, [], ◌++◌}
-use Rattle.std.proofs.Math.Option.{none, some}
+use Rattle.std.specs.Prelude.{◌≡◌, Bool, true, false, cond, List, [], ◌++◌, Some, None, Ok, Err, Option}
+use Rattle.line.specs.Types.{Ending, Leave}
 use Rattle.line.specs.declared.Station as declared
 use Rattle.line.specs.declared.Message.{Message}
-use Rattle.line.specs.declared.Leave.{Leave}
 use Rattle.line.specs.declared.Action.{Action}
 use Rattle.line.specs.declared.Action.TheVariants.{Timeout, Deliver, Exit}
 use Rattle.line.specs.Message.{holds, remove}
 use Rattle.line.specs.Answer.{Answer, refused, done}
 use Rattle.line.specs.Act.{Send, send, Reaction, Effect, act}
 use Rattle.rules.specs.declared.Sending.{Sending}
-use Rattle.rules.specs.declared.Sending.TheVariants.{Nothing, To}
 use Rattle.rules.specs.declared.Sendings.{Sendings}
 use Rattle.rules.specs.declared.Reacted.{Reacted}
-use Rattle.rules.specs.declared.Verdict.{Verdict}
-use Rattle.rules.specs.declared.Verdict.TheVariants.{Done, Refused}
 use Rattle.rules.specs.declared.Decision.{Decision}
 
 -- nothing, or one message to one station
-abbrev pub sent : Sending → List Send
-sent Nothing = []
-sent (To n m) = send n m
+abbrev pub sent : Option Sending → List Send
+sent None = []
+sent (Some x) = send x.to x.message
 
 abbrev pub both_sent : Sendings → List Send
 both_sent p = sent p.first ++ sent p.second
@@ -42,12 +38,12 @@ rest Exit b = b
 
 -- what the decision does, where b is the bag afterwards
 abbrev pub effect : Decision → List Message → Effect
-effect d b = record { after = cond d.gone none (some (record { station = d.station; bag = b })); sends = both_sent d.sendings }
+effect d b = record { after = cond d.gone None (Some (record { station = d.station; bag = b })); sends = both_sent d.sendings }
 
 -- the refusal, or the effect
-abbrev pub decided : Verdict → Effect → Answer Effect
-decided Done e = done e
-decided (Refused r) e = refused r
+abbrev pub decided : Ending → Effect → Answer Effect
+decided (Ok _) e = done e
+decided (Err r) e = refused r
 
 -- d is the decision of station s with the bag b; a station that goes is the one that it was
 pub record Decides (l : Leave) (s : declared.Station) (b : List Message) (a : Action) (d : Decision) : Type 0 where

@@ -3,7 +3,7 @@
 #![tactic(auto)]
 
 ghost use Rattle.std.specs.Prelude.{◌≡◌, false, List};
-ghost use Rattle.line.specs.declared.Leave.{Leave};
+ghost use Rattle.line.specs.Types.{Leave};
 ghost use Rattle.line.specs.declared.Message.{Message};
 ghost use Rattle.line.specs.declared.Side.{Side};
 ghost use Rattle.line.specs.Message as message;
@@ -15,38 +15,31 @@ ghost use Rattle.rules.specs.Decided.{sent, both_sent, reaction, is_found, Decid
 
 use line::{Action, Content, Leave, Message, Neighbour, Refusal, Side, Station};
 
-// Nothing, or one message to one station.
+// One message on its way to a station.
 #[derive(Clone, Copy)]
-pub enum Sending {
-    Nothing,
-    To(u32, Message),
+pub struct Sending {
+    pub to: u32,
+    pub message: Message,
 }
 
 // No step sends more than two messages.
 #[derive(Clone, Copy)]
 pub struct Sendings {
-    pub first: Sending,
-    pub second: Sending,
+    pub first: Option<Sending>,
+    pub second: Option<Sending>,
 }
 
 // A station after a delivery, and what it sends.
 #[derive(Clone, Copy)]
 pub struct Reacted {
     pub station: Station,
-    pub sending: Sending,
+    pub sending: Option<Sending>,
 }
 
-// Whether a step is done, as far as its own station goes.
-#[derive(Clone, Copy)]
-pub enum Verdict {
-    Done,
-    Refused(Refusal),
-}
-
-// A station's part in a step: refused, or its fields afterwards, whether its block goes, and what it sends.
+// A station's part in a step: whether it is done as far as this station goes, its fields afterwards, whether its block goes, and what it sends.
 #[derive(Clone, Copy)]
 pub struct Decision {
-    pub verdict: Verdict,
+    pub verdict: Result<(), Refusal>,
     pub gone: bool,
     pub station: Station,
     pub sendings: Sendings,
@@ -114,12 +107,12 @@ fn removal(side: Side) -> Message
 }
 
 // "each where there is one"
-fn send_to(n: Neighbour, m: Message) -> Sending
+fn send_to(n: Neighbour, m: Message) -> Option<Sending>
     ensures { sent result ≡ act.send_to n m }
 {
     match n {
-        Neighbour::None => Sending::Nothing,
-        Neighbour::Station(q) => Sending::To(q, m),
+        None => None,
+        Some(q) => Some(Sending { to: q, message: m }),
     }
 }
 
@@ -149,7 +142,7 @@ fn unchanged(p: Station) -> Reacted
 {
     Reacted {
         station: p,
-        sending: Sending::Nothing,
+        sending: None,
     }
 }
 
@@ -158,8 +151,8 @@ fn is_below(side: Side, id: u32, n: Neighbour) -> bool
     ensures { result ≡ lemma3.below side id (variable side n) }
 {
     match n {
-        Neighbour::None => true,
-        Neighbour::Station(q) => side.beyond(id, q),
+        None => true,
+        Some(q) => side.beyond(id, q),
     }
 }
 
@@ -168,18 +161,21 @@ fn is_equal(id: u32, n: Neighbour) -> bool
     ensures { (d : Side) → result ≡ lemma3.equal id (variable d n) }
 {
     match n {
-        Neighbour::None => false,
-        Neighbour::Station(q) => id == q,
+        None => false,
+        Some(q) => id == q,
     }
 }
 
 // An introduction of the neighbour n, where there is one, goes to id.
-fn introduce_to(id: u32, n: Neighbour) -> Sending
+fn introduce_to(id: u32, n: Neighbour) -> Option<Sending>
     ensures { (d : Side) → sent result ≡ mail (Intro (variable d n)) (process id) }
 {
     match n {
-        Neighbour::None => Sending::Nothing,
-        Neighbour::Station(q) => Sending::To(id, introduction(q)),
+        None => None,
+        Some(q) => Some(Sending {
+            to: id,
+            message: introduction(q),
+        }),
     }
 }
 
@@ -190,7 +186,7 @@ fn introduced_on(side: Side, p: Station, id: u32, n: Neighbour) -> Reacted
     // "If p < id < right, introduce sets right = id", and "sends message intro(q) to id", where q was right.
     if is_below(side, id, n) {
         return Reacted {
-            station: with_neighbour(side, Neighbour::Station(id), p),
+            station: with_neighbour(side, Some(id), p),
             sending: introduce_to(id, n),
         };
     }
@@ -228,10 +224,13 @@ fn drop_neighbour(side: Side, p: Station, n: Neighbour) -> Reacted
     ensures { reaction result ≡ act.drop_neighbour side p n }
 {
     match n {
-        Neighbour::None => unchanged(p),
-        Neighbour::Station(r) => Reacted {
-            station: with_neighbour(side, Neighbour::None, p),
-            sending: Sending::To(r, introduction(p.number)),
+        None => unchanged(p),
+        Some(r) => Reacted {
+            station: with_neighbour(side, None, p),
+            sending: Some(Sending {
+                to: r,
+                message: introduction(p.number),
+            }),
         },
     }
 }
@@ -269,11 +268,11 @@ fn received(p: Station, c: Content) -> Reacted
 }
 
 fn nothing() -> Sendings
-    ensures { (result.first ≡ Sending.Nothing) × (result.second ≡ Sending.Nothing) }
+    ensures { (result.first ≡ None) × (result.second ≡ None) }
 {
     Sendings {
-        first: Sending::Nothing,
-        second: Sending::Nothing,
+        first: None,
+        second: None,
     }
 }
 
@@ -282,12 +281,18 @@ fn introduce_both(left: Neighbour, right: Neighbour) -> Sendings
     ensures { both_sent result ≡ act.introduce_both left right }
 {
     match left {
-        Neighbour::None => nothing(),
-        Neighbour::Station(l) => match right {
-            Neighbour::None => nothing(),
-            Neighbour::Station(r) => Sendings {
-                first: Sending::To(l, introduction(r)),
-                second: Sending::To(r, introduction(l)),
+        None => nothing(),
+        Some(l) => match right {
+            None => nothing(),
+            Some(r) => Sendings {
+                first: Some(Sending {
+                    to: l,
+                    message: introduction(r),
+                }),
+                second: Some(Sending {
+                    to: r,
+                    message: introduction(l),
+                }),
             },
         },
     }
@@ -295,10 +300,10 @@ fn introduce_both(left: Neighbour, right: Neighbour) -> Sendings
 
 // A refused step: the station as it was, nothing sent.
 fn refuse(refusal: Refusal, s: Station) -> Decision
-    ensures { (result.verdict ≡ Verdict.Refused refusal) × (result.gone ≡ false) }
+    ensures { (result.verdict ≡ Err refusal) × (result.gone ≡ false) }
 {
     Decision {
-        verdict: Verdict::Refused(refusal),
+        verdict: Err(refusal),
         gone: false,
         station: s,
         sendings: nothing(),
@@ -316,10 +321,10 @@ fn deliver(found: bool, s: Station, m: Message) -> Decision
         let sending = after.sending;
         let sendings = Sendings {
             first: sending,
-            second: Sending::Nothing,
+            second: None,
         };
         return Decision {
-            verdict: Verdict::Done,
+            verdict: Ok(()),
             gone: false,
             station,
             sendings,
@@ -336,18 +341,18 @@ fn exit(leave: Leave, s: Station) -> Decision
         return refuse(Refusal::Staying, s);
     }
     match leave {
-        Leave::May => {
+        Ok(()) => {
             let left = s.left;
             let right = s.right;
             let sendings = introduce_both(left, right);
             Decision {
-                verdict: Verdict::Done,
+                verdict: Ok(()),
                 gone: true,
                 station: s,
                 sendings,
             }
         }
-        Leave::MayNot(why) => refuse(Refusal::Held(why), s),
+        Err(why) => refuse(Refusal::Held(why), s),
     }
 }
 
@@ -360,7 +365,7 @@ pub fn decide(leave: Leave, found: bool, s: Station, action: Action) -> Decision
         Action::Timeout => {
             let sendings = timeout(s);
             Decision {
-                verdict: Verdict::Done,
+                verdict: Ok(()),
                 gone: false,
                 station: s,
                 sendings,

@@ -1,20 +1,44 @@
 // The loop of a run over an accepted table (document 01, "The whole run").
 #![tactic(auto)]
 
-ghost use Rattle.std.specs.Prelude.{◌≡◌, ◌/◌, ◌≤◌, length};
+ghost use Rattle.std.specs.Prelude.{◌≡◌, ◌/◌, ◌<◌, ◌≤◌, ◌&&◌, length, get_or};
+ghost use Rattle.line.specs.Leave.{is_holder};
+ghost use Rattle.index.specs.Index.{slot_in};
 ghost use Rattle.table.specs.Fault.{fault_of};
 ghost use Rattle.table.specs.Index.{index_array};
+ghost use Rattle.arrays.specs.Arrays.{node_at};
+ghost use Rattle.moves.specs.Holders.{may_hold};
 ghost use Rattle.finishing.specs.Ended.{run_of, ended_with, said};
 
-use arrays::{read_bags, read_counts, read_stations};
+use arrays::Arrays;
 use bag::Bag;
 use finishing::{Ran, finish};
 use index::{drop_entry, lookup};
-use line::{Ending, Reading, Refusal};
+use line::Refusal;
 use moves::holders::{asked_of, is_holder, leave_from, may_hold};
 use moves::sends::{bag_after, plan, put_in};
-use rules::{Sending, Verdict};
 use steps::read_step;
+
+// Whether the station at place j holds the one with this number. A bag is copied out only where it has to be looked at.
+fn holds(arrays: &Arrays, j: usize, number: u32) -> bool
+    requires { j < 64 }
+    ensures { let slot = slot_in (get_or arrays.now.index j 0) in
+        let other = node_at arrays.now slot in
+        result ≡ (may_hold number other.station (get_or arrays.now.counts slot 0) && is_holder number other) }
+{
+    let slot = (arrays.index[j] % 64) as usize;
+    let other = arrays.stations[slot];
+    let count = arrays.counts[slot];
+    may_hold(number, other, count)
+        && is_holder(
+            number,
+            other,
+            Bag {
+                messages: arrays.bags[slot],
+                count,
+            },
+        )
+}
 
 // The run over an accepted table, whose index the check has made. The arrays stay where they were read; the index says where the station of
 // each place stands in them. What refuses a step is known before anything is stored, and a refused step ends the run.
@@ -22,119 +46,71 @@ pub fn run_accepted(table: &[u8], sorted: [u64; 64], steps: &[u8], room: &mut [u
     requires { (fault_of table.now ≡ 0) × (sorted ≡ index_array table.now) × (length steps.now / 12 ≤ 4096) × (length table.now ≤ length room.old) }
     ensures { said result room.new ≡ ended_with (run_of table.now steps.now) room.old }
 {
-    let mut index = sorted;
-    let mut stations = read_stations(table);
-    let mut bags = read_bags(table);
-    let mut counts = read_counts(table);
-    let mut n = table.len() / 512;
+    let mut arrays = Arrays::read(table, sorted);
     let total = steps.len() / 12;
-    let mut k: usize = 0;
-    while k < total {
-        let reading = read_step(steps, k);
-        let Reading::Step(step) = reading else {
-            return finish(
-                room,
-                index,
-                stations,
-                bags,
-                counts,
-                n,
-                k,
-                Ending::Stopped(Refusal::Malformed),
-            );
+    for k in 0..total {
+        let step = match read_step(steps, k) {
+            Ok(step) => step,
+            Err(why) => return finish(room, &arrays, k, Err(why)),
         };
-        let i = lookup(&index[..n], step.station);
-        if n <= i {
-            return finish(
-                room,
-                index,
-                stations,
-                bags,
-                counts,
-                n,
-                k,
-                Ending::Stopped(Refusal::Absent),
-            );
+        let i = lookup(&arrays.index[..arrays.n], step.station);
+        if arrays.n <= i {
+            return finish(room, &arrays, k, Err(Refusal::Absent));
         }
         let action = step.action;
-        let own = (index[i] % 64) as usize;
-        let station = stations[own];
-        let count = counts[own];
-        // NIDEC: an exit asks the stations by rising number, until one holds this one. A bag is copied out only where it has to be looked
-        // at.
-        let asked = asked_of(action, n);
-        let mut j: usize = 0;
-        while j < asked {
-            let slot = (index[j] % 64) as usize;
-            let other = stations[slot];
-            let other_count = counts[slot];
-            if may_hold(station.number, other, other_count) {
-                let other_row = bags[slot];
-                let other_bag = Bag {
-                    messages: other_row,
-                    count: other_count,
-                };
-                if is_holder(station.number, other, other_bag) {
-                    break;
-                }
-            }
-            j += 1;
-        }
-        let leave = leave_from(&index[..n], count, j);
+        let own = (arrays.index[i] % 64) as usize;
+        let station = arrays.stations[own];
+        let count = arrays.counts[own];
+        // NIDEC: an exit asks the stations by rising number, until one holds this one.
+        let asked = asked_of(action, arrays.n);
+        let j = (0..asked)
+            .find(|j| holds(&arrays, *j, station.number))
+            .unwrap_or(asked);
+        let leave = leave_from(&arrays.index[..arrays.n], count, j);
         // What the station does, who receives, and whether the step is done.
-        let row = bags[own];
         let taken = bag_after(
             action,
             Bag {
-                messages: row,
+                messages: arrays.bags[own],
                 count,
             },
         );
-        let plan = plan(&index[..n], &counts, i, leave, taken.found, station, action);
-        let verdict = plan.verdict;
-        if let Verdict::Refused(why) = verdict {
-            return finish(
-                room,
-                index,
-                stations,
-                bags,
-                counts,
-                n,
-                k,
-                Ending::Stopped(why),
-            );
+        let plan = plan(
+            &arrays.index[..arrays.n],
+            &arrays.counts,
+            i,
+            leave,
+            taken.found,
+            station,
+            action,
+        );
+        if let Err(why) = plan.verdict {
+            return finish(room, &arrays, k, Err(why));
         }
         // The station is stored, its own bag where a message was taken out of it, then each message where one is sent.
         let decision = plan.decision;
-        let after = decision.station;
-        stations[own] = after;
+        arrays.stations[own] = decision.station;
         if taken.found {
-            let rest = taken.bag;
-            let rest_row = rest.messages;
-            bags[own] = rest_row;
-            counts[own] = rest.count;
+            let row = taken.bag.messages;
+            arrays.bags[own] = row;
+            arrays.counts[own] = taken.bag.count;
         }
-        let sendings = decision.sendings;
-        let one = sendings.first;
-        let two = sendings.second;
-        let a = plan.first;
-        let b = plan.second;
-        if let Sending::To(_, a_message) = one {
-            let a_row = bags[a];
-            let a_new = put_in(a_row, &mut counts, a, a_message);
-            bags[a] = a_new;
+        if let Some(sending) = decision.sendings.first {
+            let a = plan.first;
+            let row = put_in(arrays.bags[a], &mut arrays.counts, a, sending.message);
+            arrays.bags[a] = row;
         }
-        if let Sending::To(_, b_message) = two {
-            let b_row = bags[b];
-            let b_new = put_in(b_row, &mut counts, b, b_message);
-            bags[b] = b_new;
+        if let Some(sending) = decision.sendings.second {
+            let b = plan.second;
+            let row = put_in(arrays.bags[b], &mut arrays.counts, b, sending.message);
+            arrays.bags[b] = row;
         }
-        k += 1;
         // A station that goes leaves its place; no bag is moved.
         if decision.gone {
-            index = drop_entry(index, n, i);
-            n -= 1;
+            let index = drop_entry(arrays.index, arrays.n, i);
+            arrays.index = index;
+            arrays.n -= 1;
         }
     }
-    finish(room, index, stations, bags, counts, n, k, Ending::Complete)
+    finish(room, &arrays, total, Ok(()))
 }

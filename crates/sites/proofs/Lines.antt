@@ -1,10 +1,8 @@
 -- So site codes play no part in runs, in the written order, nor in whether a line is in line.
 use mathlib.Core.Path.{◌≡◌, refl, sym, ◌∙◌, ap}
+use Rattle.std.specs.Prelude.{Some, None, Ok, Err}
+use Rattle.line.specs.Types.{Neighbour, Reading}
 use mathlib.Core.List.{List, [], ◌∷◌, map}
-use Rattle.line.specs.declared.Neighbour.{Neighbour}
-use Rattle.line.specs.declared.Neighbour.TheVariants.{None, Station}
-use Rattle.line.specs.declared.Reading.{Reading}
-use Rattle.line.specs.declared.Reading.TheVariants.{Step, Refused}
 use Rattle.line.specs.Answer.{Answer, refused, done}
 use Rattle.lists.specs.Lists.{sort}
 use Rattle.line.specs.Node.{Line, number, at_site, lower, with_bag_in_order, in_written_order}
@@ -23,8 +21,8 @@ Bare a b = without_sites a ≡ b
 
 tries : (line : Line) (x : Reading) → try (without_sites line) x ≡ done_with without_sites (try line x)
 unfolding try
-tries line (Step x) = steps_same line x
-tries line (Refused r) = refl
+tries line (Ok x) = steps_same line x
+tries line (Err r) = refl
 
 answered : (a b : Line) (x : Reading) → Bare a b → AnswersAlike Bare (try a x) (try b x)
 answered a b x h = rw (← h, tries a x) (go (try a x))
@@ -55,7 +53,7 @@ neighbours_same : (before : Neighbour) (line : Line) → neighbours_after before
 unfolding neighbours_after first at_site
 neighbours_same before [] = refl
 neighbours_same before (s ∷ []) = refl
-neighbours_same before (s ∷ t ∷ line) = rw (neighbours_same (Station (number s)) (t ∷ line))
+neighbours_same before (s ∷ t ∷ line) = rw (neighbours_same (Some (number s)) (t ∷ line))
 
 lined_same : (line : Line) → in_line (without_sites line) ≡ in_line line
 unfolding in_line neighbours_in_line is_quiet at_site

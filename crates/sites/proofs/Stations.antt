@@ -1,19 +1,16 @@
 -- What one station does in a step does not hang on its site code: with the code taken out it sends the same, and is afterwards what it would be,
 -- with the code taken out.
 use mathlib.Core.Path.{◌≡◌, refl, ◌∙◌, ap}
+use Rattle.std.specs.Prelude.{Option, Some, None, Ok, Err}
+use Rattle.line.specs.Types.{Leave, Neighbour}
 use mathlib.Core.Bool.{Bool, true, false, cond}
-use mathlib.Core.Option.{Option, none, some}
 use Prim.Native.Nat.{ℕ}
 use lib.Dec.{eqb}
-use Rattle.line.specs.declared.Neighbour.{Neighbour}
-use Rattle.line.specs.declared.Neighbour.TheVariants.{None, Station}
 use Rattle.line.specs.declared.Content.{Content}
 use Rattle.line.specs.declared.Content.TheVariants.{Introduction, RemoveLeft, RemoveRight}
 use Rattle.line.specs.declared.Station as declared
 use Rattle.line.specs.declared.Side.{Side}
 use Rattle.line.specs.declared.Side.TheVariants.{Left, Right}
-use Rattle.line.specs.declared.Leave.{Leave}
-use Rattle.line.specs.declared.Leave.TheVariants.{May, MayNot}
 use Rattle.line.specs.declared.Refusal.{Refusal}
 use Rattle.line.specs.declared.Refusal.TheVariants.{NotInBag, Staying}
 use Rattle.line.specs.declared.Action.{Action}
@@ -35,8 +32,8 @@ abbrev bare_reaction : Reaction → Reaction
 bare_reaction r = record { station = bare r.station; sends = r.sends }
 
 abbrev pub bare_option : Option Node → Option Node
-bare_option none = none
-bare_option (some s) = some (at_site 0 s)
+bare_option None = None
+bare_option (Some s) = Some (at_site 0 s)
 
 abbrev pub bare_effect : Effect → Effect
 bare_effect e = record { after = bare_option e.after; sends = e.sends }
@@ -62,11 +59,11 @@ obeying Right p = refl
 module _ (p : declared.Station) where
   met : (d : Side) (q : ℕ) (k : Neighbour) → meet d (bare p) q k ≡ bare_reaction (meet d p q k)
   unfolding meet
-  met d q None = rw (turned d (Station q) p)
-  met d q (Station r) =
-      let nearer : Reaction = record { station = with_neighbour d (Station q) p; sends = send q (introduction r) } in
+  met d q None = rw (turned d (Some q) p)
+  met d q (Some r) =
+      let nearer : Reaction = record { station = with_neighbour d (Some q) p; sends = send q (introduction r) } in
       let farther : Reaction = record { station = p; sends = send r (introduction q) } in
-      rw (turned d (Station q) p, either bare_reaction (eqb q r) (unchanged p) farther, either bare_reaction (beyond d q r) nearer (cond (eqb q r) (unchanged p) farther))
+      rw (turned d (Some q) p, either bare_reaction (eqb q r) (unchanged p) farther, either bare_reaction (beyond d q r) nearer (cond (eqb q r) (unchanged p) farther))
 
   introducing : (q : ℕ) → introduced (bare p) q ≡ bare_reaction (introduced p q)
   unfolding introduced
@@ -77,7 +74,7 @@ module _ (p : declared.Station) where
   dropping : (d : Side) (k : Neighbour) → drop_neighbour d (bare p) k ≡ bare_reaction (drop_neighbour d p k)
   unfolding drop_neighbour
   dropping d None = refl
-  dropping d (Station r) = rw (turned d None p)
+  dropping d (Some r) = rw (turned d None p)
 
   removing : (d : Side) → removed (bare p) d ≡ bare_reaction (removed p d)
   unfolding removed
@@ -100,8 +97,8 @@ module _ {A B : Type 0} (f : A → B) where
   leaves : (t : Bool) (l : Leave) (a : A) → require t Staying (unless_held l (done (f a))) ≡ done_with f (require t Staying (unless_held l (done a)))
   unfolding require unless_held
   leaves false l a = refl
-  leaves true May a = refl
-  leaves true (MayNot why) a = refl
+  leaves true (Ok _) a = refl
+  leaves true (Err why) a = refl
 
 pub acts : (l : Leave) (s : Node) (a : Action) → act l (at_site 0 s) a ≡ done_with bare_effect (act l s a)
 unfolding act at_site timeout notice
@@ -109,4 +106,4 @@ acts l s Timeout = refl
 acts l s (Deliver m) =
     ap (λ (r : Reaction). require (holds m s.bag) NotInBag (done (kept (remove m s.bag) r))) (receiving s.station m.content)
     ∙ requiring bare_effect (holds m s.bag) NotInBag (kept (remove m s.bag) (received s.station m.content))
-acts l s Exit = leaves bare_effect (leaving s) l (record { after = none; sends = introduce_both s.station.left s.station.right })
+acts l s Exit = leaves bare_effect (leaving s) l (record { after = None; sends = introduce_both s.station.left s.station.right })

@@ -1,15 +1,14 @@
 -- A step on the whole line does not hang on site codes: over the line with all codes taken out it is refused alike, or leaves what it would leave,
 -- with all codes taken out.
 use mathlib.Core.Path.{◌≡◌, refl, ◌∙◌, ap}
+use Rattle.std.specs.Prelude.{Option, Some, None, Err}
 use mathlib.Core.Bool.{Bool, true, false, cond, not, ◌||◌}
-use mathlib.Core.Option.{Option, none, some}
 use mathlib.Core.List.{List, [], ◌∷◌, map}
 use Prim.Native.Nat.{ℕ}
 use lib.Dec.{eqb, ltb}
 use lib.ListN.{length}
 use Rattle.line.specs.declared.Message.{Message}
 use Rattle.line.specs.declared.Reason.TheVariants.{OwnBag}
-use Rattle.line.specs.declared.Leave.TheVariants.{MayNot}
 use Rattle.line.specs.declared.Refusal.TheVariants.{Full}
 use Rattle.line.specs.declared.Step as declared
 use Rattle.lists.specs.Lists.{all}
@@ -40,7 +39,7 @@ holders p (s ∷ line) = ap (smaller (is_holder p s) (number s)) (holders p line
 
 pub leaving_same : (line : Line) (s : Node) → leave_of (without_sites line) (at_site 0 s) ≡ leave_of line s
 unfolding leave_of at_site
-leaving_same line s = ap (λ (q : Option ℕ). cond (is_empty s.bag) (held_by q) (MayNot OwnBag)) (holders (number s) line)
+leaving_same line s = ap (λ (q : Option ℕ). cond (is_empty s.bag) (held_by q) (Err OwnBag)) (holders (number s) line)
 
 changes : (n : ℕ) (f g : Node → Node) → ((t : Node) → g (at_site 0 t) ≡ at_site 0 (f t)) → (line : Line)
     → map (change n g) (without_sites line) ≡ without_sites (map (change n f) line)
@@ -67,8 +66,8 @@ goes n (t ∷ line) = go (eqb (number t) n) (goes n line)
 
 replaces : (n : ℕ) (o : Option Node) (line : Line) → replace n (bare_option o) (without_sites line) ≡ without_sites (replace n o line)
 unfolding replace
-replaces n none line = goes n line
-replaces n (some s) line = changes n (λ (t : Node). s) (λ (t : Node). at_site 0 s) (λ t. refl) line
+replaces n None line = goes n line
+replaces n (Some s) line = changes n (λ (t : Node). s) (λ (t : Node). at_site 0 s) (λ t. refl) line
 
 receives : (m : Message) (t : Node) → with_message m (at_site 0 t) ≡ at_site 0 (with_message m t)
 unfolding with_message at_site

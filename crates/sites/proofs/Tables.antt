@@ -1,5 +1,6 @@
 -- The same of tables: a run writes the codes that it reads, and a table with all codes taken out is run alike.
 use Prim.Native.Nat.{ℕ, ◌-◌, ◌%◌, ◌≤◌}
+use Rattle.std.specs.Prelude.{Ok}
 use mathlib.Core.Path.{◌≡◌, refl, sym, ap, ◌∙◌}
 use mathlib.Core.Bool.{Bool, true, false, cond}
 use mathlib.Core.List.Memᴰ
@@ -11,7 +12,6 @@ use native.Mathlib.Omega.{arith}
 use lib.Dec.{eqb}
 use lib.ListN.{length, take}
 use lib.Seq.{take_at}
-use Rattle.line.specs.declared.Answered.TheVariants.{Ended}
 use Rattle.line.specs.declared.Marks.{Marks}
 use Rattle.line.specs.Message.{capacity}
 use Rattle.line.specs.Marks.{marks_hold}
@@ -144,7 +144,7 @@ module _ (t : List ℕ) (clean : fault_of t ≡ 0) where
       let line = (run_of t steps).line in
       let e = bare_run steps in
       record {
-        answer = ap (λ (r : machine.Run). Ended r.ending) (sym e);
+        answer = ap (λ (r : machine.Run). Ok r.ending) (sym e);
         done = ap (λ (r : machine.Run). r.steps) (sym e);
         stations = sym (map-length (at_site 0) line) ∙ ap (λ (r : machine.Run). length r.line) (sym e);
         written =

@@ -1,8 +1,8 @@
 -- What is proved of the site codes (document 02, T-05; the proofs are in proofs/, under the same names in snake case). `outcome` is the
 -- definition in the contract of the run.
 use Rattle.std.specs.Prelude.{ℕ, ◌≡◌, List, length}
+use Rattle.line.specs.Types.{Reading}
 use mathlib.Core.List.{Memᴰ as Member}
-use Rattle.line.specs.declared.Reading.{Reading}
 use Rattle.line.specs.Node.{Node, Line, at_site, in_written_order}
 use Rattle.line.specs.Leave.{leave_of}
 use Rattle.line.specs.InLine.{in_line}

@@ -5,36 +5,12 @@
 
 ghost use Rattle.std.specs.Prelude.{◌≡◌, ◌≤◌, length, IfOk};
 
-use cases::{fill, print_place, print_rest, read_full, read_part};
+use cases::{fill, print_place, print_rest, read_lengths, read_part};
 use engine::run;
 use std::fs::File;
 use std::io;
 use std::io::Read;
 use text::write_listing;
-
-#[derive(Clone, Copy)]
-struct Head {
-    table: usize,
-    steps: usize,
-    room: usize,
-}
-
-// The lengths of the next case; a table longer than any where there is none.
-fn next_head(file: &mut impl Read) -> io::Result<Head> {
-    let mut head = [0u8; 12];
-    if read_full(file, &mut head)? != 12 {
-        return Ok(Head {
-            table: 65536,
-            steps: 0,
-            room: 0,
-        });
-    }
-    Ok(Head {
-        table: octets::quad_at(&head, 0) as usize,
-        steps: octets::quad_at(&head, 4) as usize,
-        room: octets::quad_at(&head, 8) as usize,
-    })
-}
 
 // Runs the list and prints the listing; how much of the room the table written takes is returned.
 fn print_run(
@@ -84,20 +60,23 @@ fn next_case(
 ) -> io::Result<bool>
     requires { 40000 ≤ length out.old }
 {
-    let head = next_head(file)?;
-    if room.len() < head.room {
+    let Some(lengths) = read_lengths::<3>(file)? else {
+        return Ok(false);
+    };
+    let [table_length, steps_length, room_length] = lengths;
+    if room.len() < room_length {
         return Ok(false);
     }
-    let a = read_part(file, table, head.table)?;
-    if a != head.table {
+    let a = read_part(file, table, table_length)?;
+    if a != table_length {
         return Ok(false);
     }
-    let b = read_part(file, steps, head.steps)?;
-    if b != head.steps {
+    let b = read_part(file, steps, steps_length)?;
+    if b != steps_length {
         return Ok(false);
     }
     print_place(rt, place)?;
-    print_case(rt, &table[..a], &steps[..b], room, head.room, out)?;
+    print_case(rt, &table[..a], &steps[..b], room, room_length, out)?;
     Ok(true)
 }
 

@@ -2,8 +2,7 @@
 use Rattle.std.specs.Prelude.{cond}
 use Rattle.line.specs.Answer.{carried_number, carried_holder, answer_number, answer_reason}
 use Rattle.finishing.specs.Ended.{Outcome}
-use Rattle.questions.specs.declared.Told.{Told}
-use Rattle.questions.specs.Told.{told_number, told_yes}
+use Rattle.questions.specs.Told.{told_number, told_yes, Told}
 use Rattle.view.specs.declared.Looked.{Looked}
 use Rattle.station_line.specs.declared.StationLineRan.{StationLineRan}
 use Rattle.station_line.specs.declared.StationLineTold.{StationLineTold}

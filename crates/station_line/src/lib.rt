@@ -4,6 +4,7 @@
 #![tactic(auto)]
 
 ghost use Rattle.std.specs.Prelude.{◌≡◌};
+ghost use Rattle.line.specs.Answer.{fault_number, numbered};
 ghost use Rattle.table.specs.Fault.{fault_of};
 ghost use Rattle.engine.specs.Ran.{outcome};
 ghost use Rattle.leave.specs.Leave.{leave_as, may_leave};
@@ -14,7 +15,8 @@ ghost use Rattle.station_line.specs.Interface.{ran_as, told_as, viewed_as};
 use engine::run;
 use leave::may_leave;
 use leave::records::{LeaveRecord, leave_as};
-use questions::{Told, in_line};
+use line::{Fault, answer_number, answer_reason, carried_holder, carried_number, checked_number};
+use questions::{in_line, told_number, told_yes};
 use table::check;
 use view::{Looked, look};
 
@@ -52,7 +54,7 @@ pub struct StationLineViewed {
 pub fn station_line_check(table: &[u8]) -> u32
     ensures { result ≡ fault_of table.now }
 {
-    check(table)
+    checked_number(check(table))
 }
 
 #[tactic(auto, unfolding(crate::specs::Interface::ran_as))]
@@ -61,23 +63,23 @@ pub fn station_line_run(table: &[u8], steps: &[u8], room: &mut [u8]) -> StationL
 {
     let ran = run(table, steps, room);
     let answer = ran.answer;
-    let reason = answer.reason();
+    let reason = answer_reason(answer);
     StationLineRan {
-        answer: answer.number(),
+        answer: answer_number(answer),
         done: ran.done,
         stations: ran.stations,
-        reason: reason.number(),
-        holder: reason.holder(),
+        reason: carried_number(reason),
+        holder: carried_holder(reason),
     }
 }
 
 // The number and the value of an answer.
-fn told_as(told: Told) -> StationLineTold
-    ensures { result ≡ told_as told }
+fn told_as(told: Result<bool, Fault>) -> StationLineTold
+    ensures { result ≡ told_as (numbered fault_number told) }
 {
     StationLineTold {
-        answer: told.number(),
-        yes: told.yes(),
+        answer: told_number(told),
+        yes: told_yes(told),
     }
 }
 

@@ -1,5 +1,7 @@
 -- A step written and read, and read and written.
 use Prim.Native.Nat.{ℕ, ◌<◌}
+use Rattle.std.specs.Prelude.{Some, None, Ok}
+use Rattle.line.specs.Types.{Reading}
 use mathlib.Core.Path.{◌≡◌, refl, sym, ap, ◌∙◌, subst}
 use mathlib.Core.Bool.{Bool, true, false, cond, ◌&&◌}
 use mathlib.Core.List.{List, [], ◌++◌}
@@ -12,16 +14,12 @@ use Rattle.line.specs.declared.Content.TheVariants.{Introduction, RemoveLeft, Re
 use Rattle.line.specs.declared.Action.{Action}
 use Rattle.line.specs.declared.Action.TheVariants.{Timeout, Deliver, Exit}
 use Rattle.line.specs.declared.Step as declared
-use Rattle.line.specs.declared.Reading.{Reading}
-use Rattle.line.specs.declared.Reading.TheVariants.{Step}
 use Rattle.line.specs.Accepted.{in_range}
 use Rattle.line.proofs.AcceptedTest.{in_range_lem}
 use Rattle.octets.specs.Bytes.{word, quad, le16, le32, AreBytes}
 use Rattle.octets.proofs.Both.{and_left, and_right}
 use Rattle.octets.proofs.Endian.{word_written, quad_written, word_read, quad_read}
-use Rattle.fields.specs.declared.Place.{Place}
-use Rattle.fields.specs.declared.Place.TheVariants.{Good, Bad}
-use Rattle.fields.specs.Fields.{place_of, is_good}
+use Rattle.fields.specs.Fields.{place_of, is_good, Place}
 use Rattle.fields.proofs.Contents.{Introduces, content_back, kind_low, carried_low, Says, place_says}
 use Rattle.steps.specs.Steps.{malformed, step_for, plain, delivery, step_of, step_at, action_number, kind_beside, number_beside, step_bytes}
 use Rattle.steps.specs.Claims.{content_holds, action_holds, well_formed, StepReadsBack, StepWrittenBack}
@@ -83,7 +81,7 @@ record Told (action kind station number : ℕ) (x : declared.Step) : Type 0 wher
 
 module _ (action kind station number : ℕ) where
   abbrev Tells : Reading → Type 0
-  Tells r = (x : declared.Step) → r ≡ Step x → Told action kind station number x
+  Tells r = (x : declared.Step) → r ≡ Ok x → Told action kind station number x
 
   none_told : Tells malformed
   none_told x e = let z : ◌≡◌ {A = ℕ} 0 1 = cc in absurd (omega arith)
@@ -106,10 +104,10 @@ module _ (action kind station number : ℕ) where
         go false t p q = none_told
 
     delivery_tells : 2 ≡ action → (p : Place) → place_of kind 0 number ≡ p → Tells (delivery station p)
-    delivery_tells i (Good m) e =
+    delivery_tells i (Some m) e =
         let says : Says kind 0 number m = rw e at (place_says kind 0 number (ap is_good e)) in
         made (Deliver m) i says.kind_is says.number_is (ranged_content m.content says.ranged)
-    delivery_tells i Bad e = none_told
+    delivery_tells i None e = none_told
 
   step_tells : Tells (step_of action kind station number)
   unfolding step_of

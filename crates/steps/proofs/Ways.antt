@@ -1,5 +1,7 @@
 -- One law for each way through the reading of a step: what was tested and what was called give what the list says.
 use mathlib.Core.Path.{◌≡◌, sym, ◌∙◌}
+use Rattle.std.specs.Prelude.{Some, None}
+use Rattle.line.specs.Types.{Reading}
 use mathlib.Core.Bool.{Bool, true, false}
 use mathlib.Core.List.{List}
 use Prim.Native.Nat.{ℕ, ◌+◌, ◌*◌}
@@ -7,12 +9,9 @@ use borrow.Author.Tests.{eq-eqb, ne_eqb}
 use Rattle.line.specs.declared.Action.{Action}
 use Rattle.line.specs.declared.Action.TheVariants.{Timeout, Deliver, Exit}
 use Rattle.line.specs.declared.Message.{Message}
-use Rattle.line.specs.declared.Reading.{Reading}
 use Rattle.line.specs.Accepted.{in_range}
 use Rattle.octets.specs.Bytes.{word, quad}
-use Rattle.fields.specs.declared.Place.{Place}
-use Rattle.fields.specs.declared.Place.TheVariants.{Good, Bad}
-use Rattle.fields.specs.Fields.{place_of}
+use Rattle.fields.specs.Fields.{place_of, Place}
 use Rattle.steps.specs.Steps.{malformed, step_for, plain, delivery, step_of, step_at}
 
 -- x is what the call gave
@@ -31,10 +30,10 @@ module _ (kind station number : ℕ) (a : Action) where
 
 -- p is the message place
 module _ (kind station number : ℕ) {p : Place} (e : p ≡ place_of kind 0 number) where
-  pub delivered : (m : Message) → p ≡ Good m → step_for station (Deliver m) ≡ delivery station (place_of kind 0 number)
+  pub delivered : (m : Message) → p ≡ Some m → step_for station (Deliver m) ≡ delivery station (place_of kind 0 number)
   delivered m h = rw (← e, h)
 
-  pub undelivered : p ≡ Bad → {x : Reading} → x ≡ malformed → x ≡ delivery station (place_of kind 0 number)
+  pub undelivered : p ≡ None → {x : Reading} → x ≡ malformed → x ≡ delivery station (place_of kind 0 number)
   undelivered h q = q ∙ rw (← e, h)
 
 -- t is whether the station is in range

@@ -1,25 +1,22 @@
 -- The step list (document 01, "The step list").
-use Rattle.std.specs.Prelude.{ℕ, ◌+◌, ◌*◌, ◌/◌, cond, ◌&&◌, List, [], ◌∷◌, ◌++◌, map, eqb, length}
+use Rattle.std.specs.Prelude.{ℕ, ◌+◌, ◌*◌, ◌/◌, cond, ◌&&◌, List, [], ◌∷◌, ◌++◌, map, eqb, length, Some, None, Ok, Err}
+use Rattle.line.specs.Types.{Reading}
 use Rattle.line.specs.declared.Action.{Action}
 use Rattle.line.specs.declared.Action.TheVariants.{Timeout, Deliver, Exit}
-use Rattle.line.specs.declared.Reading.{Reading}
-use Rattle.line.specs.declared.Reading.TheVariants.{Step, Refused}
 use Rattle.line.specs.declared.Refusal.TheVariants.{Malformed}
 use Rattle.line.specs.Accepted.{in_range}
 use Rattle.line.specs.declared.Step as declared
 use Rattle.line.specs.Message.{kind, carried}
 use Rattle.octets.specs.Bytes.{word, quad, le16, le32}
-use Rattle.fields.specs.declared.Place.{Place}
-use Rattle.fields.specs.declared.Place.TheVariants.{Good, Bad}
-use Rattle.fields.specs.Fields.{place_of}
+use Rattle.fields.specs.Fields.{place_of, Place}
 use Rattle.lists.specs.Places.{range}
 
 -- the refusal of a step that cannot be read
 abbrev pub malformed : Reading
-malformed = Refused Malformed
+malformed = Err Malformed
 
 abbrev pub step_for : ℕ → Action → Reading
-step_for station a = Step (record { station = station; action = a })
+step_for station a = Ok (record { station = station; action = a })
 
 -- "For actions 1 and 3 kind and number are 0."
 unfoldable pub plain : ℕ → ℕ → ℕ → Action → Reading
@@ -27,8 +24,8 @@ plain kind station number a = cond (eqb kind 0 && eqb number 0) (step_for statio
 
 -- "For action 2 they follow the rule of a message place."
 abbrev pub delivery : ℕ → Place → Reading
-delivery station (Good m) = step_for station (Deliver m)
-delivery station Bad = malformed
+delivery station (Some m) = step_for station (Deliver m)
+delivery station None = malformed
 
 -- "A step is malformed if its action or kind is none of these, its station is not 1 to 999,999, or its kind and number break these rules."
 unfoldable pub step_of : ℕ → ℕ → ℕ → ℕ → Reading

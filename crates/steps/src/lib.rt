@@ -7,64 +7,56 @@ ghost use Rattle.octets.specs.Bytes.{le16, le32, overwrite};
 ghost use Rattle.steps.specs.Steps as spec;
 
 use bag::{carried, kind};
-use fields::{Place, in_range, place_of};
-use line::{Action, Reading, Refusal, Step};
+use fields::{in_range, place_of};
+use line::{Action, Refusal, Step};
 use octets::{quad_at, word_at, write_quad, write_word};
 
-fn malformed() -> Reading
+fn malformed() -> Result<Step, Refusal>
     ensures { result ≡ spec.malformed }
 {
-    Reading::Refused(Refusal::Malformed)
+    Err(Refusal::Malformed)
 }
 
 // A timeout or an exit, which carry no message.
-fn plain(kind: u16, station: u32, number: u32, action: Action) -> Reading
+fn plain(kind: u16, station: u32, number: u32, action: Action) -> Result<Step, Refusal>
     ensures { result ≡ spec.plain kind station number action }
 {
-    if kind != 0 {
+    if kind != 0 || number != 0 {
         return malformed();
     }
-    if number != 0 {
-        return malformed();
-    }
-    Reading::Step(Step { station, action })
+    Ok(Step { station, action })
 }
 
 // A delivery: kind and number follow the rule of a message place.
-fn delivery(kind: u16, station: u32, number: u32) -> Reading
+fn delivery(kind: u16, station: u32, number: u32) -> Result<Step, Refusal>
     ensures { result ≡ spec.delivery station (place_of kind 0 number) }
 {
-    let place = place_of(kind, 0, number);
-    match place {
-        Place::Good(message) => Reading::Step(Step {
+    match place_of(kind, 0, number) {
+        Some(message) => Ok(Step {
             station,
             action: Action::Deliver(message),
         }),
-        Place::Bad => malformed(),
+        None => malformed(),
     }
 }
 
 // A step of its four fields.
-fn step_of(action: u16, kind: u16, station: u32, number: u32) -> Reading
+fn step_of(action: u16, kind: u16, station: u32, number: u32) -> Result<Step, Refusal>
     ensures { result ≡ spec.step_of action kind station number }
 {
-    if in_range(station) {
-        if action == 1 {
-            return plain(kind, station, number, Action::Timeout);
-        }
-        if action == 2 {
-            return delivery(kind, station, number);
-        }
-        if action == 3 {
-            return plain(kind, station, number, Action::Exit);
-        }
+    if !in_range(station) {
         return malformed();
     }
-    malformed()
+    match action {
+        1 => plain(kind, station, number, Action::Timeout),
+        2 => delivery(kind, station, number),
+        3 => plain(kind, station, number, Action::Exit),
+        _ => malformed(),
+    }
 }
 
 // Step k of a list: "either the step or its refusal".
-pub fn read_step(steps: &[u8], k: usize) -> Reading
+pub fn read_step(steps: &[u8], k: usize) -> Result<Step, Refusal>
     requires { 12 * k + 12 ≤ length steps.now }
     ensures { result ≡ spec.step_at steps.now k }
 {
@@ -94,8 +86,7 @@ pub fn write_step(room: &mut [u8], at: usize, step: Step)
     ensures { room.new ≡ overwrite at (spec.step_bytes step) room.old }
 {
     let station = step.station;
-    let action = step.action;
-    match action {
+    match step.action {
         Action::Timeout => write_fields(room, at, 1, 0, station, 0),
         Action::Deliver(message) => {
             let content = message.content;

@@ -6,6 +6,10 @@ use Prim.Native.Nat.{ℕ, suc, ◌+◌, ◌-◌, ◌*◌, ◌/◌, ◌≤◌, �
 use native.Mathlib.Omega.{arith}
 use lib.ListN.{length, get_or, take, drop, length-append, length-map, length-drop, drop_of_length-le, get_or-map}
 use lib.Seq.{length-take-le, take_at, drop-append-add, get_or-take, get_or-drop}
+use Rattle.std.specs.declared.slice.ChunksExact.{ChunksExact}
+use Rattle.std.specs.Slice.Iter.{chunks_exact_rest, chunks_exact_size, chunks_exact_steps}
+use Rattle.std.proofs.lemmas.Iterator.{YieldsList}
+use Rattle.std.proofs.lemmas.Iterator.Splits.{YieldsList-from_shown_while}
 use Rattle.octets.specs.Bytes.{quad}
 use Rattle.lists.proofs.Elements.{drop_one, member_at, range_at, range_length, range_shifted}
 use Rattle.block.specs.Layout.{node_of}
@@ -37,6 +41,15 @@ module _ (t : List ℕ) (k : ℕ) (h : k < length t / 512) where
   pub block_length : length (block_at t k) ≡ 512
   unfolding block_at
   block_length = length-take-le 512 (drop (512 * k) t) (omega (arith, length-drop (512 * k) t))
+
+-- a block by its place
+pub placed_block : (t b : List ℕ) (k : ℕ) → k < length (blocks t) → b ≡ get_or (blocks t) k b → (length b ≡ 512) × Member b (blocks t)
+placed_block t b k h e =
+    let w : k < length t / 512 = omega (arith, blocks_length t) in
+    let front = drop_one (blocks t) b k h in
+    let same = blocks_from t k w in
+    let is : b ≡ block_at t k = cc in
+    rw is (block_length t k w, block_member t k w)
 
 pub blocks_end : (t : List ℕ) (k : ℕ) → length t / 512 ≤ k → drop k (blocks t) ≡ []
 blocks_end t k h = drop_of_length-le (blocks t) {i = k} (omega (arith, blocks_length t))
@@ -80,3 +93,16 @@ module _ (b t : List ℕ) (h : length b ≡ 512) where
   blocks_cons =
       let n : length (b ++ t) / 512 ≡ suc (length t / 512) = omega (arith, length-append b t) in
       rw (n, block_first, range_shifted (block_at (b ++ t)) (block_at t) block_next 0 (length t / 512))
+
+-- The blocks as `chunks_exact` gives them.
+pub blocks_given : {s : ChunksExact ℕ} → chunks_exact_size s ≡ 512 → YieldsList chunks_exact_steps (λ x. x.now) s (blocks (chunks_exact_rest s))
+blocks_given {s} h =
+    YieldsList-from_shown_while
+    chunks_exact_steps
+    (λ x. x.now)
+    (λ s. blocks (chunks_exact_rest s))
+    (λ s. chunks_exact_size s ≡ 512)
+    (λ s t p w. omega (arith, blocks_length (chunks_exact_rest s), w.1.0))
+    (λ s x t p w. (w.0 ∙ p, ap blocks w.1.0 ∙ blocks_cons x.now (chunks_exact_rest t) (w.1.1 ∙ p)))
+    s
+    h

@@ -1,13 +1,13 @@
 -- "block order plays no part": what is made of the blocks one by one, in a way that does not mind two of them changing places, is the
 -- same in every order.
 use mathlib.Core.Path.{◌≡◌, refl, sym, ap, ◌∙◌}
+use Rattle.std.specs.Prelude.{Some, None}
+use Rattle.line.specs.Types.{Neighbour}
 use mathlib.Core.Bool.{Bool, true, false, cond, ◌&&◌, ◌||◌}
 use mathlib.Core.List.{List, [], ◌∷◌, map}
 use Prim.Native.Nat.{ℕ, ◌+◌}
 use native.Mathlib.Omega.{arith}
 use lib.Dec.{eqb}
-use Rattle.line.specs.declared.Neighbour.{Neighbour}
-use Rattle.line.specs.declared.Neighbour.TheVariants.{None, Station}
 use Rattle.line.specs.declared.Content.{Content}
 use Rattle.line.specs.declared.Content.TheVariants.{Introduction, RemoveLeft, RemoveRight}
 use Rattle.line.specs.declared.Message.{Message}
@@ -66,7 +66,7 @@ module _ (a b : Line) (h : (n : ℕ) → is_present a n ≡ is_present b n) wher
   same_neighbour : (n : Neighbour) → knows_neighbour a n ≡ knows_neighbour b n
   unfolding knows_neighbour
   same_neighbour None = refl
-  same_neighbour (Station q) = h q
+  same_neighbour (Some q) = h q
 
   same_content : (c : Content) → knows_content a c ≡ knows_content b c
   unfolding knows_content

@@ -3,12 +3,13 @@ use mathlib.Core.Path.{◌≡◌, refl, sym, ap, ◌∙◌}
 use mathlib.Core.Bool.{Bool, true, false, cond, ◌&&◌}
 use mathlib.Core.List.Memᴰ.{head as here}
 use mathlib.Core.List.Memᴰ.{tail as there}
-use mathlib.Core.List.{List, [], ◌∷◌, map, Memᴰ as Member}
-use Prim.Native.Nat.{ℕ, suc, ◌/◌, ◌%◌, ◌≤◌}
+use mathlib.Core.List.{List, [], ◌∷◌, ◌++◌, map, Memᴰ as Member}
+use Prim.Native.Nat.{ℕ, suc, ◌/◌, ◌%◌, ◌≤◌, ◌<◌}
 use native.Mathlib.Omega.{arith}
 use lib.Dec.{eqb, leb, ltb}
 use lib.ListN.{length}
 use borrow.Author.Tests.{eqb-true, eqb-false, leb-true}
+use Rattle.std.proofs.lemmas.Bool.Decides.{nat_tests}
 use Rattle.lists.specs.Lists.{all}
 use Rattle.lists.proofs.Lists.{and_both}
 use Rattle.line.specs.Node.{numbers}
@@ -19,6 +20,7 @@ use Rattle.block.specs.Layout as block
 use Rattle.table.specs.Blocks.{blocks, nodes}
 use Rattle.table.specs.Fault.{Test, first_failing, fault_of}
 use Rattle.table.specs.Smallest.{smaller, smallest, stations_fault}
+use Rattle.table.proofs.BlockLaws.{blocks_cons, blocks_end}
 
 -- the first of three tests that does not hold
 abbrev pick : Bool → Bool → Bool → ℕ
@@ -131,3 +133,32 @@ first_most m (x ∷ l) h =
 pub fault_most : (t : List ℕ) → fault_of t ≤ 7
 unfolding fault_of all
 fault_most t = first_most 7 _ refl
+
+-- Blocks in stored order: the smaller of the fault so far and the smallest of the blocks to come stays the same.
+smaller_joins : (a b c : ℕ) → smaller (smaller a b) c ≡ smaller a (smaller b c)
+unfolding smaller
+smaller_joins a b c = grind (arith, nat_tests)
+
+smaller_last : (a : ℕ) → smaller a 0 ≡ a
+unfolding smaller
+smaller_last a = grind (arith, nat_tests)
+
+pub record FaultTo (t : List ℕ) (fault : ℕ) (rest : List ℕ) : Type 0 where
+  pub is : smaller fault (smallest (blocks rest)) ≡ smallest (blocks t)
+
+pub fault_none : {t : List ℕ} → FaultTo t 0 t
+unfolding smaller
+fault_none = record { is = refl }
+
+module _ {t rest : List ℕ} {fault : ℕ} (so_far : FaultTo t fault rest) where
+  pub fault_next : (b left : List ℕ) → rest ≡ b ++ left → length b ≡ 512 → {f r : ℕ} → r ≡ smaller fault f → f ≡ block.fault_of b → FaultTo t r left
+  unfolding smallest
+  fault_next b left e h p q = record {
+    is = rw (p, q, smaller_joins) (ap (λ (l : List (List ℕ)). smaller fault (smallest l)) (sym (ap blocks e ∙ blocks_cons b left h)) ∙ so_far.is);
+  }
+
+  pub fault_last : length rest < 512 → fault ≡ smallest (blocks t)
+  unfolding smallest
+  fault_last h =
+      let e : blocks rest ≡ [] = blocks_end rest 0 (omega arith) in
+      sym (smaller_last fault) ∙ (rw e at so_far.is)

@@ -1,6 +1,7 @@
 -- Laws that belong to no one function, and the theorems of specs/Claims.antt.
 pub mod BlockLaws
 pub mod FaultLaws
+pub mod FaultOrder
 pub mod NameLaws
 pub mod Indexing
 pub mod Accepting

@@ -18,10 +18,12 @@ use Rattle.octets.specs.Bytes.{word}
 use Rattle.block.specs.Layout.{station_of, node_of, messages}
 use Rattle.block.proofs.FieldLaws.{no_fault_count}
 use Rattle.block.proofs.PlaceLaws.{length_messages}
-use Rattle.table.specs.declared.Inspected.{Inspected}
+use Rattle.std.specs.Prelude.{Ok, Err}
+use Rattle.line.specs.declared.Fault.{Fault}
+use Rattle.line.specs.Answer.{fault_number}
 use Rattle.table.specs.Blocks.{block_at, blocks, nodes, line_of}
 use Rattle.table.specs.Fault.{fault_of}
-use Rattle.table.specs.Index.{number_at, index_of, Inspects}
+use Rattle.table.specs.Index.{number_at, index_of, index_array, Inspects}
 use Rattle.table.proofs.BlockLaws.{block_member}
 use Rattle.table.proofs.FaultLaws.{accepted_passes, passes_clean, no_fault_of}
 use Rattle.table.proofs.Indexing.{block_entry, positions, positions_length, position_within, index_order, index_part, index_length}
@@ -74,18 +76,25 @@ module _ (t : List ℕ) (clean : fault_of t ≡ 0) where
   clean_count k h e = rw e (no_fault_count (block_at t k) (no_fault_of (blocks t) (passes_clean t (accepted_passes t clean)) (block_member t k h)))
 
 -- What the check hands on of an accepted table.
-module _ {t : List ℕ} {r : Inspected} (found : Inspects t r) (none : r.fault ≡ 0) where
+module _ {t index : List ℕ} (found : Inspects t (Ok index)) where
   pub inspected_clean : fault_of t ≡ 0
-  inspected_clean = sym found.fault_is ∙ none
+  inspected_clean = sym found.fault_is
 
-  pub inspected_index : take (length t / 512) r.index ≡ index_of t
-  inspected_index = rw (found.index_is inspected_clean) (index_part t (length t / 512) refl)
+  pub inspected_array : index ≡ index_array t
+  inspected_array = found.index_is
 
-  pub inspected_size : length t / 512 ≡ length (take (length t / 512) r.index)
+  pub inspected_index : take (length t / 512) index ≡ index_of t
+  inspected_index = rw inspected_array (index_part t (length t / 512) refl)
+
+  pub inspected_size : length t / 512 ≡ length (take (length t / 512) index)
   inspected_size = sym (ap length inspected_index ∙ index_length t)
 
-  pub inspected_long : length t / 512 ≤ length r.index
-  inspected_long = omega (arith, inspected_size, length-take (length t / 512) r.index)
+  pub inspected_long : length t / 512 ≤ length index
+  inspected_long = omega (arith, inspected_size, length-take (length t / 512) index)
+
+-- And of another one.
+pub inspected_refused : {t : List ℕ} {f : Fault} → Inspects t (Err f) → fault_of t ≡ fault_number f
+inspected_refused found = sym found.fault_is
 
 -- The index of an accepted table.
 module _ (t index : List ℕ) (clean : fault_of t ≡ 0) (is : index ≡ index_of t) where

@@ -1,5 +1,7 @@
 -- The check refuses a table by the first cause that applies.
 use Prim.Native.Nat.{ℕ, zero, suc, ◌/◌, ◌%◌, ◌<◌}
+use Rattle.std.specs.Prelude.{Some, None}
+use Rattle.line.specs.Types.{Neighbour}
 use mathlib.Core.Path.{◌≡◌, refl, sym, ap, subst, ◌∙◌}
 use mathlib.Core.Logic.{◌↔◌, ◌≢◌}
 use mathlib.Core.Bool.{Bool, true, false, not, ◌&&◌}
@@ -16,8 +18,6 @@ use Rattle.lists.proofs.Distinct.{are_distinct_lem}
 use Rattle.lists.proofs.Elements.{member_at, member_place, map_at}
 use Rattle.refusals.specs.Refusals.{Refusal, Refuses}
 use Rattle.refusals.proofs.Refusing.{tested, refuses_exactly}
-use Rattle.line.specs.declared.Neighbour.{Neighbour}
-use Rattle.line.specs.declared.Neighbour.TheVariants.{None, Station}
 use Rattle.line.specs.declared.Content.{Content}
 use Rattle.line.specs.declared.Content.TheVariants.{Introduction, RemoveLeft, RemoveRight}
 use Rattle.line.specs.declared.Message.{Message}
@@ -115,10 +115,10 @@ module _ (line : Line) where
   absent : (q : ℕ) → is_present line q ≡ false → ¬ Present line q
   absent q e m = clash ((is_present_lem line q).1 m) e
 
-  unknown_neighbour : (k : Neighbour) → knows_neighbour line k ≡ false → Unknown (λ q. k ≡ Station q)
+  unknown_neighbour : (k : Neighbour) → knows_neighbour line k ≡ false → Unknown (λ q. k ≡ Some q)
   unfolding knows_neighbour
   unknown_neighbour None e = clash refl e
-  unknown_neighbour (Station q) e = (q, refl, absent q e)
+  unknown_neighbour (Some q) e = (q, refl, absent q e)
 
   unknown_content : (c : Content) → knows_content line c ≡ false → Unknown (λ q. Introduction q ≡ c)
   unfolding knows_content

@@ -24,8 +24,8 @@ fn knows_neighbour(index: &[u64], neighbour: Neighbour) -> bool
     ensures { (line : Line) → Lists (numbers_in index.now) line → result ≡ knows_neighbour line neighbour }
 {
     match neighbour {
-        Neighbour::None => true,
-        Neighbour::Station(q) => is_listed(index, q),
+        None => true,
+        Some(q) => is_listed(index, q),
     }
 }
 
@@ -46,15 +46,7 @@ fn knows_messages(b: &[u8], index: &[u64]) -> bool
     ensures { (line : Line) → Lists (numbers_in index.now) line → result ≡ all (λ (m : Message). knows_content line m.content) (messages b.now (word b.now 16)) }
 {
     let n = word_at(b, 16) as usize;
-    let mut i = 0;
-    while i < n {
-        if knows_place(b, i, index) {
-            i += 1;
-        } else {
-            return false;
-        }
-    }
-    true
+    (0..n).all(|i| knows_place(b, i, index))
 }
 
 // One block: its left, its right and its introductions.
@@ -73,16 +65,7 @@ pub fn names_known(table: &[u8], index: &[u64]) -> bool
     requires { (smallest (blocks table.now) ≡ 0) × Lists (numbers_in index.now) (nodes table.now) × Rising (numbers_in index.now) }
     ensures { result ≡ all (names_present (nodes table.now)) (nodes table.now) }
 {
-    let n = table.len() / 512;
-    let mut k = 0;
-    while k < n {
-        let start = 512 * k;
-        let end = start + 512;
-        if knows_names(&table[start..end], index) {
-            k += 1;
-        } else {
-            return false;
-        }
-    }
-    true
+    table
+        .chunks_exact(512)
+        .all(|block| knows_names(block, index))
 }

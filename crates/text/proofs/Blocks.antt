@@ -1,44 +1,32 @@
 -- The blocks of a table without a fault, one after another: each can be printed, and its line stands behind those of the blocks before it.
 use mathlib.Core.Path.{◌≡◌, refl, ap, ◌∙◌}
+use Rattle.line.specs.Types.{Answered}
 use mathlib.Core.Bool.{Bool, true}
 use mathlib.Core.List.{List, ◌++◌}
-use Prim.Native.Nat.{ℕ, ◌+◌, ◌-◌, ◌*◌, ◌/◌, ◌≤◌, ◌<◌}
+use Prim.Native.Nat.{ℕ, ◌+◌, ◌*◌, ◌/◌, ◌≤◌, ◌<◌}
 use native.Mathlib.Numerals.{add-one}
 use native.Mathlib.Omega.{arith}
 use borrow.Author.Tests.{leb-true}
-use lib.ListN.{length, get_or, take, drop, get_or-map}
+use lib.ListN.{length, get_or, take, get_or-map}
 use lib.Seq.{take-suc, take-length}
-use Rattle.line.specs.declared.Answered.{Answered}
 use Rattle.line.specs.Answer.{answer_number}
-use Rattle.octets.specs.Bytes.{word}
 use Rattle.block.specs.Layout.{node_of}
-use Rattle.block.proofs.FieldLaws.{no_fault_count}
 use Rattle.table.specs.Blocks.{block_at, blocks, nodes}
 use Rattle.table.specs.Fault.{fault_of}
-use Rattle.table.proofs.BlockLaws.{nodes_length, block_at_lem, block_length, block_member, lent}
-use Rattle.table.proofs.FaultLaws.{accepted_passes, passes_clean, no_fault_of}
+use Rattle.table.proofs.BlockLaws.{nodes_length, block_at_lem}
+use Rattle.table.proofs.FaultLaws.{accepted_passes}
 use Rattle.words.specs.Writing.{Wrote}
 use Rattle.words.proofs.Written.{wrote_none, wrote_length, wrote_next}
 use Rattle.text.specs.Listing.{station_text, stations_text, prints_stations}
 use Rattle.text.proofs.Lines.{stations_more}
 
--- block k, as it is lent
-abbrev lent_at : List ℕ → ℕ → List ℕ
-lent_at t k = take (512 * k + 512 - 512 * k) (drop (512 * k) t)
-
-module _ (t : List ℕ) (k : ℕ) (h : k < length t / 512) where
-  pub lent_length : length (lent_at t k) ≡ 512
-  lent_length = rw (lent t k) (block_length t k h)
-
-  pub lent_count : fault_of t ≡ 0 → word (lent_at t k) 16 ≤ 32
-  lent_count clean = rw (lent t k) (no_fault_count (block_at t k) (no_fault_of (blocks t) (passes_clean t (accepted_passes t clean)) (block_member t k h)))
-
-  lines_more : stations_text (take k (nodes t)) ++ station_text (node_of (lent_at t k)) ≡ stations_text (take (k + 1) (nodes t))
-  unfolding nodes
-  lines_more =
-      let node = node_of (block_at t 0) in
-      let is : get_or (nodes t) k node ≡ node_of (block_at t k) = get_or-map node_of (blocks t) k (block_at t 0) ∙ ap node_of (block_at_lem t k h) in
-      rw (lent t k, add-one k, take-suc (nodes t) k node (omega (arith, nodes_length t)), is) (stations_more (take k (nodes t)) (node_of (block_at t k)))
+-- the line of block k behind those of the blocks before it
+lines_more : (t : List ℕ) (k : ℕ) → k < length t / 512 → stations_text (take k (nodes t)) ++ station_text (node_of (block_at t k)) ≡ stations_text (take (k + 1) (nodes t))
+unfolding nodes
+lines_more t k h =
+    let node = node_of (block_at t 0) in
+    let is : get_or (nodes t) k node ≡ node_of (block_at t k) = get_or-map node_of (blocks t) k (block_at t 0) ∙ ap node_of (block_at_lem t k h) in
+    rw (add-one k, take-suc (nodes t) k node (omega (arith, nodes_length t)), is) (stations_more (take k (nodes t)) (node_of (block_at t k)))
 
 -- the lines of the first k blocks are in
 pub record LinesTo (l : List ℕ) (at : ℕ) (t : List ℕ) (k end : ℕ) (m : List ℕ) : Type 0 where
@@ -52,9 +40,9 @@ unfolding stations_text
 lines_none h = record { within = omega arith; near = omega arith; size = refl; wrote = wrote_none (omega arith) }
 
 module _ {l t m : List ℕ} {at k end : ℕ} (so_far : LinesTo l at t k end m) where
-  pub lines_next : k < length t / 512 → {o : List ℕ} {r : ℕ} → Wrote m end (station_text (node_of (lent_at t k))) r o → r ≤ end + 435 → LinesTo l at t (k + 1) r o
-  lines_next h a g =
-      let text = wrote_next so_far.wrote a in
+  pub lines_next : k < length t / 512 → {b : List ℕ} → b ≡ block_at t k → {o : List ℕ} {r : ℕ} → Wrote m end (station_text (node_of b)) r o → r ≤ end + 435 → LinesTo l at t (k + 1) r o
+  lines_next h e a g =
+      let text = wrote_next so_far.wrote (rw e at a) in
       record { within = omega arith; near = omega (arith, so_far.near); size = wrote_length text; wrote = rw (lines_more t k h) at text }
 
   pub lines_all : length t / 512 ≤ k → Wrote l at (stations_text (nodes t)) end m

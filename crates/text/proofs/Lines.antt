@@ -1,5 +1,7 @@
 -- The lines of a listing in the pieces in which they are put. Each law takes what the writers of the pieces leave.
 use mathlib.Core.Path.{◌≡◌, refl}
+use Rattle.std.specs.Prelude.{None}
+use Rattle.line.specs.Types.{Answered, Carried, Neighbour}
 use mathlib.Core.Bool.{Bool, true, false}
 use mathlib.Core.List.{List, [], ◌∷◌, ◌++◌, map, append_assoc, append-nil, map-append}
 use Prim.Native.Nat.{ℕ, ◌+◌, ◌*◌, ◌≤◌, ◌<◌}
@@ -7,20 +9,15 @@ use native.Mathlib.Numerals.{add-one}
 use native.Mathlib.Omega.{arith}
 use lib.ListN.{length}
 use borrow.Author.Tests.{eq-eqb, ne_eqb}
-use Rattle.line.specs.declared.Neighbour.{Neighbour}
 use Rattle.line.specs.declared.Message.{Message}
 use Rattle.line.specs.declared.Station as declared
 use Rattle.line.specs.declared.Reason.{Reason}
 use Rattle.line.specs.declared.Reason.TheVariants.{OwnBag, HeldBy}
-use Rattle.line.specs.declared.Carried.{Carried}
-use Rattle.line.specs.declared.Carried.TheVariants.{Nothing, Because}
-use Rattle.line.specs.declared.Answered.{Answered}
 use Rattle.line.specs.Answer.{answer_number, answer_reason}
 use Rattle.line.specs.Node.{Node, Line}
 use Rattle.octets.specs.Bytes.{word}
-use Rattle.fields.specs.declared.Place.{Place}
 use Rattle.block.specs.Layout.{place_at, messages, station_of, node_of}
-use Rattle.fields.specs.Fields.{message_of}
+use Rattle.fields.specs.Fields.{message_of, Place}
 use Rattle.words.specs.Words.{ascii, decimal, neighbour_text, mark_text, message_text, space, line_feed, spaced, parted}
 use Rattle.words.specs.Writing.{Wrote}
 use Rattle.words.proofs.Written.{wrote_none, wrote_length, wrote_next}
@@ -38,12 +35,9 @@ module _ (why : Reason) {l m : List ℕ} {at r : ℕ} where
   wrote_holder q e a = rw (e, append-nil (decimal q)) a
 
 module _ (carried : Carried) {l : List ℕ} {at : ℕ} where
-  pub wrote_nothing : carried ≡ Nothing → at + 19 ≤ length l → Wrote l at (spaced (carried_words carried)) at l
+  pub wrote_nothing : carried ≡ None → at + 19 ≤ length l → Wrote l at (spaced (carried_words carried)) at l
   unfolding spaced
   wrote_nothing e h = rw e (wrote_none (omega arith))
-
-  pub wrote_reason : (why : Reason) → carried ≡ Because why → {m : List ℕ} {r : ℕ} → Wrote l at (spaced (reason_words why)) r m → Wrote l at (spaced (carried_words carried)) r m
-  wrote_reason why e a = rw e a
 
 -- the first line
 regrouped : (s t u v w x : List ℕ) → ((s ++ t) ++ (u ++ v)) ++ (w ++ x) ≡ s ++ (t ++ (u ++ (v ++ (w ++ (x ++ [])))))
@@ -110,9 +104,6 @@ module _ {l b m : List ℕ} {at n i end : ℕ} (so_far : MessagesTo l at b n i e
       let more : spaced (map message_text (messages b i)) ++ (space ∷ message_text x) ≡ spaced (map message_text (messages b (i + 1))) =
       rw (f, e, add-one i, map-append) (spaced_more (map message_text (messages b i)) (message_text (message_of (place_at b i)))) in
       record { within = omega arith; near = omega (arith, so_far.near); size = wrote_length text; wrote = rw more at text }
-
-  pub messages_all : n ≤ i → n ≡ word b 16 → Wrote l at (spaced (map message_text (messages b (word b 16)))) end m
-  messages_all h e = let k : i ≡ word b 16 = omega (arith, so_far.within) in rw k at so_far.wrote
 
 -- the site code, where there is one
 module _ (site : ℕ) {l : List ℕ} {at : ℕ} where

@@ -1,11 +1,9 @@
 -- The printed listing, byte by byte (document 01, "The printed listing"; document 02, T-02 and T-05).
-use Rattle.std.specs.Prelude.{ℕ, Bool, cond, ◌&&◌, ◌||◌, List, [], ◌∷◌, ◌++◌, map, eqb, leb}
+use Rattle.std.specs.Prelude.{ℕ, Bool, cond, ◌&&◌, ◌||◌, List, [], ◌∷◌, ◌++◌, map, eqb, leb, Some, None}
+use Rattle.line.specs.Types.{Answered, Carried}
 use Rattle.line.specs.declared.Station as declared
 use Rattle.line.specs.declared.Reason.{Reason}
 use Rattle.line.specs.declared.Reason.TheVariants.{OwnBag, HeldBy}
-use Rattle.line.specs.declared.Carried.{Carried}
-use Rattle.line.specs.declared.Carried.TheVariants.{Nothing, Because}
-use Rattle.line.specs.declared.Answered.{Answered}
 use Rattle.line.specs.Answer.{answer_number, answer_reason}
 use Rattle.line.specs.Node.{Node, Line, site}
 use Rattle.words.specs.Words.{ascii, decimal, neighbour_text, mark_text, message_text, parted, line_feed}
@@ -20,8 +18,8 @@ reason_words OwnBag = ascii "bag" ∷ []
 reason_words (HeldBy q) = ascii "held-by" ∷ decimal q ∷ []
 
 abbrev pub carried_words : Carried → List (List ℕ)
-carried_words Nothing = []
-carried_words (Because why) = reason_words why
+carried_words None = []
+carried_words (Some why) = reason_words why
 
 -- "First line: `answer`, the number, `done`, steps done, `stations`, stations."
 unfoldable pub head_text : Answered → ℕ → ℕ → List ℕ

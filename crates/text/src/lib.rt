@@ -4,15 +4,16 @@
 mod stations;
 
 ghost use Rattle.std.specs.Prelude.{◌≡◌, true, [], ◌∷◌, ◌++◌, ◌+◌, ◌*◌, ◌/◌, ◌≤◌, length, take, drop};
-ghost use Rattle.line.specs.Answer.{answer_number};
+ghost use Rattle.line.specs.Answer.{answer_number, told};
 ghost use Rattle.table.specs.Blocks.{nodes};
 ghost use Rattle.table.specs.Fault.{fault_of};
 ghost use Rattle.words.specs.Words.{ascii, decimal, spaced, parted};
 ghost use Rattle.words.specs.Writing.{Wrote};
 ghost use Rattle.text.specs.Listing.{reason_words, carried_words, head_text, stations_text, prints_stations, listing_text};
 
-use line::{Answered, Carried, Reason};
+use line::{Reason, Refused, answer_number, answer_reason};
 use stations::put_line;
+use table::block_at;
 use words::{put, put_named, put_word};
 
 // "the printed first line then ends in `bag`, or `held-by` and the station number" (document 02, T-02), with a space before each word.
@@ -27,13 +28,13 @@ fn put_reason(out: &mut [u8], at: usize, why: Reason) -> usize
 }
 
 // The reason, where the answer carries one.
-fn put_carried(out: &mut [u8], at: usize, carried: Carried) -> usize
+fn put_carried(out: &mut [u8], at: usize, carried: Option<Reason>) -> usize
     requires { at + 19 ≤ length out.old }
     ensures { Wrote out.old at (spaced (carried_words carried)) result out.new × (result ≤ at + 19) }
 {
     match carried {
-        Carried::Nothing => at,
-        Carried::Because(why) => put_reason(out, at, why),
+        None => at,
+        Some(why) => put_reason(out, at, why),
     }
 }
 
@@ -48,20 +49,21 @@ fn put_counts(out: &mut [u8], number: u32, done: u32, stations: u32) -> usize
 }
 
 // The first line: up to 53 bytes for its numbers, 19 for the reason and the line feed.
-fn put_head(out: &mut [u8], answer: Answered, done: u32, stations: u32) -> usize
+fn put_head(out: &mut [u8], answer: Result<(), Refused>, done: u32, stations: u32) -> usize
     requires { 73 ≤ length out.old }
-    ensures { Wrote out.old 0 (head_text answer done stations) result out.new × (result ≤ 73) }
+    ensures { Wrote out.old 0 (head_text (told answer) done stations) result out.new × (result ≤ 73) }
 {
-    let counted = put_counts(out, answer.number(), done, stations);
-    let end = put_carried(out, counted, answer.reason());
+    let counted = put_counts(out, answer_number(answer), done, stations);
+    let end = put_carried(out, counted, answer_reason(answer));
     put(out, end, b'\n')
 }
 
 // "For answers 0 and 10 to 15 there follows a line per station"
+#[tactic(auto, unfolding(crate::specs::Listing::prints_stations))]
 fn prints_stations(answer: u32) -> bool
     ensures { result ≡ prints_stations answer }
 {
-    (answer == 0) | ((10 <= answer) & (answer <= 15))
+    matches!(answer, 0 | 10..=15)
 }
 
 // A line for each block of a table without a fault, in stored order.
@@ -69,26 +71,27 @@ fn put_lines(out: &mut [u8], at: usize, table: &[u8]) -> usize
     requires { (fault_of table.now ≡ 0) × (at + 435 * (length table.now / 512) ≤ length out.old) }
     ensures { Wrote out.old at (stations_text (nodes table.now)) result out.new × (result ≤ at + 435 * (length table.now / 512)) }
 {
-    let n = table.len() / 512;
     let mut end = at;
-    let mut k = 0;
-    while k < n {
-        let a = 512 * k;
-        let e = a + 512;
-        end = put_line(out, end, &table[a..e]);
-        k += 1;
+    for k in 0..table.len() / 512 {
+        end = put_line(out, end, block_at(table, k));
     }
     end
 }
 
 // The first line, and the lines of the stations where the answer prints them.
-fn put_listing(out: &mut [u8], answer: Answered, done: u32, stations: u32, table: &[u8]) -> usize
+fn put_listing(
+    out: &mut [u8],
+    answer: Result<(), Refused>,
+    done: u32,
+    stations: u32,
+    table: &[u8],
+) -> usize
     requires in_bounds { 40000 ≤ length out.old }
-    requires table_value { prints_stations (answer_number answer) ≡ true → fault_of table.now ≡ 0 }
-    ensures { Wrote out.old 0 (listing_text answer done stations (nodes table.now)) result out.new }
+    requires table_value { prints_stations (answer_number (told answer)) ≡ true → fault_of table.now ≡ 0 }
+    ensures { Wrote out.old 0 (listing_text (told answer) done stations (nodes table.now)) result out.new }
 {
     let end = put_head(out, answer, done, stations);
-    if prints_stations(answer.number()) {
+    if prints_stations(answer_number(answer)) {
         return put_lines(out, end, table);
     }
     end
@@ -98,14 +101,14 @@ fn put_listing(out: &mut [u8], answer: Answered, done: u32, stations: u32, table
 // so at most 64 blocks; else it plays no part. The amount filled is returned; room past it is not touched.
 pub fn write_listing(
     out: &mut [u8],
-    answer: Answered,
+    answer: Result<(), Refused>,
     done: u32,
     stations: u32,
     table: &[u8],
 ) -> usize
     requires in_bounds { 40000 ≤ length out.old }
-    requires table_value { prints_stations (answer_number answer) ≡ true → fault_of table.now ≡ 0 }
-    ensures value { (result ≡ length (listing_text answer done stations (nodes table.now))) × (out.new ≡ listing_text answer done stations (nodes table.now) ++ drop result out.old) }
+    requires table_value { prints_stations (answer_number (told answer)) ≡ true → fault_of table.now ≡ 0 }
+    ensures value { (result ≡ length (listing_text (told answer) done stations (nodes table.now))) × (out.new ≡ listing_text (told answer) done stations (nodes table.now) ++ drop result out.old) }
     ensures upper_bound { (result ≤ length out.new) × (result ≡ length (take result out.new)) }
 {
     put_listing(out, answer, done, stations, table)

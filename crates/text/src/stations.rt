@@ -29,13 +29,10 @@ fn put_station(out: &mut [u8], at: usize, s: Station) -> usize
     requires { at + 38 ≤ length out.old }
     ensures { Wrote out.old at (parted (station_words s)) result out.new × (result ≤ at + 38) }
 {
-    let left = s.left;
-    let right = s.right;
-    let marks = s.marks;
     let first = put_number(out, at, s.number);
-    let second = put_neighbours(out, first, left, right);
+    let second = put_neighbours(out, first, s.left, s.right);
     let third = put(out, second, b' ');
-    put_mark(out, third, marks)
+    put_mark(out, third, s.marks)
 }
 
 // A message behind a space.
@@ -54,10 +51,8 @@ fn put_messages(out: &mut [u8], at: usize, b: &[u8]) -> usize
 {
     let n = word_at(b, 16) as usize;
     let mut end = at;
-    let mut i = 0;
-    while i < n {
+    for i in 0..n {
         end = put_further(out, end, message_of(place_at(b, i)));
-        i += 1;
     }
     end
 }
@@ -79,9 +74,8 @@ pub(crate) fn put_line(out: &mut [u8], at: usize, b: &[u8]) -> usize
     ensures { Wrote out.old at (station_text (node_of b.now)) result out.new × (result ≤ at + 435) }
 {
     let station = station_of(b);
-    let marks = station.marks;
     let named = put_station(out, at, station);
     let listed = put_messages(out, named, b);
-    let end = put_site(out, listed, marks.site);
+    let end = put_site(out, listed, station.marks.site);
     put(out, end, b'\n')
 }

@@ -3,8 +3,10 @@
 #![tactic(auto)]
 
 ghost use Rattle.std.specs.Prelude.{◌≡◌};
+ghost use Rattle.table.specs.Fault.{fault_of};
 ghost use Rattle.view.specs.View.{shown_at, block_or_end, block_offset, address_past, next_position, viewed, Opens, moved};
 
+use line::checked_number;
 use table::check;
 
 // What is to be seen at a position, in numbers: the check's number, whether there is a block, where it lies in the table, and the next
@@ -15,6 +17,13 @@ pub struct Looked {
     pub found: bool,
     pub offset: usize,
     pub next: usize,
+}
+
+// The number of the check.
+fn answer_of(table: &[u8]) -> u32
+    ensures { result ≡ fault_of table.now }
+{
+    checked_number(check(table))
 }
 
 // What an answer leaves of a table for a view: all of it at 0, else an empty part.
@@ -28,6 +37,7 @@ fn show(table: &[u8], answer: u32) -> &[u8]
 }
 
 // The block at a position, where it lies; an empty part at the end.
+#[tactic(auto, using(table::proofs::BlockLaws::lent), unfolding(crate::specs::View::block_or_end, crate::specs::View::block_offset, crate::specs::View::has_block))]
 fn block_from(table: &[u8], position: usize) -> &[u8]
     ensures { (result.now ≡ block_or_end table.now position) × (result.ref_ptr ≡ address_past table.entry.ref_ptr (block_offset table.now position)) }
 {
@@ -41,6 +51,7 @@ fn block_from(table: &[u8], position: usize) -> &[u8]
 }
 
 // The position after it; the end stays the end.
+#[tactic(auto, unfolding(crate::specs::View::next_position, crate::specs::View::has_block))]
 fn next_position(table: &[u8], position: usize) -> usize
     ensures { result ≡ next_position table.now position }
 {
@@ -51,10 +62,11 @@ fn next_position(table: &[u8], position: usize) -> usize
 }
 
 // All of it for any bytes and any position, in numbers: "Over a table that isn't accepted it gives the check's number and no block".
+#[tactic(auto, unfolding(crate::specs::View::viewed, crate::specs::View::shown, crate::specs::View::has_block, crate::specs::View::block_offset, crate::specs::View::next_position))]
 pub fn look(table: &[u8], position: usize) -> Looked
     ensures { result ≡ viewed table.now position }
 {
-    let answer = check(table);
+    let answer = answer_of(table);
     let blocks = show(table, answer).len() / 512;
     if position >= blocks {
         return Looked {
@@ -83,10 +95,11 @@ pub struct View<'a> {
 }
 
 // Checks the caller's table, once for the whole walk; the view stands at its first block.
+#[tactic(auto, unfolding(crate::specs::View::shown))]
 pub fn open_view<'a>(table: &'a [u8]) -> View<'a>
     ensures { Opens table.entry result }
 {
-    let answer = check(table);
+    let answer = answer_of(table);
     let shown = show(table, answer);
     View {
         answer,

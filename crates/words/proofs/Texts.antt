@@ -1,12 +1,12 @@
 -- Each text in the pieces in which it is put.
 use mathlib.Core.Path.{◌≡◌, ap, ◌∙◌}
+use Rattle.std.specs.Prelude.{Some, None}
+use Rattle.line.specs.Types.{Neighbour}
 use mathlib.Core.Bool.{true, false}
 use mathlib.Core.List.{List, [], ◌∷◌, ◌++◌}
 use Prim.Native.Nat.{ℕ, ◌+◌, ◌/◌, ◌%◌, ◌^◌, ◌≤◌, ◌<◌}
 use native.Mathlib.Omega.{arith}
 use lib.ListN.{length, length-append}
-use Rattle.line.specs.declared.Neighbour.{Neighbour}
-use Rattle.line.specs.declared.Neighbour.TheVariants.{None, Station}
 use Rattle.line.specs.declared.Content.{Content}
 use Rattle.line.specs.declared.Content.TheVariants.{Introduction, RemoveLeft, RemoveRight}
 use Rattle.line.specs.declared.Marks.{Marks}
@@ -25,7 +25,7 @@ module _ {l m : List ℕ} {at r : ℕ} where
   unfolding neighbour_text
   wrote_nobody n e w = rw e w
 
-  pub wrote_station : (n : Neighbour) {k : ℕ} → n ≡ Station k → Wrote l at (decimal k) r m → Wrote l at (neighbour_text n) r m
+  pub wrote_station : (n : Neighbour) {k : ℕ} → n ≡ Some k → Wrote l at (decimal k) r m → Wrote l at (neighbour_text n) r m
   unfolding neighbour_text
   wrote_station n e w = rw e w
 

@@ -1,9 +1,8 @@
 -- The words of the printed listing, byte by byte (document 01, "The printed listing").
-use Rattle.std.specs.Prelude.{ℕ, zero, suc, ◌+◌, ◌/◌, ◌%◌, cond, List, [], ◌∷◌, ◌++◌, ltb}
+use Rattle.std.specs.Prelude.{ℕ, zero, suc, ◌+◌, ◌/◌, ◌%◌, cond, List, [], ◌∷◌, ◌++◌, ltb, Some, None}
+use Rattle.line.specs.Types.{Neighbour}
 use Prim.Native.Char.{code}
 use Prim.Native.String.{String, [] as end, ◌∷◌ as ◌then◌}
-use Rattle.line.specs.declared.Neighbour.{Neighbour}
-use Rattle.line.specs.declared.Neighbour.TheVariants.{None, Station}
 use Rattle.line.specs.declared.Content.{Content}
 use Rattle.line.specs.declared.Content.TheVariants.{Introduction, RemoveLeft, RemoveRight}
 use Rattle.line.specs.declared.Message.{Message}
@@ -33,7 +32,7 @@ decimal n = digits (suc n) n
 -- "left, right (`-` for none)"
 unfoldable pub neighbour_text : Neighbour → List ℕ
 neighbour_text None = ascii "-"
-neighbour_text (Station n) = decimal n
+neighbour_text (Some n) = decimal n
 
 -- "`stay` or `leave`"
 unfoldable pub mark_text : Marks → List ℕ

@@ -22,11 +22,7 @@ pub fn put_word(out: &mut [u8], at: usize, word: &[u8]) -> usize
     requires { at + length word.now ≤ length out.old }
     ensures { Wrote out.old at word.now result out.new }
 {
-    let mut i = 0;
-    while i < word.len() {
-        out[at + i] = word[i];
-        i += 1;
-    }
+    out[at..at + word.len()].copy_from_slice(word);
     at + word.len()
 }
 
@@ -73,8 +69,8 @@ pub fn put_neighbour(out: &mut [u8], at: usize, neighbour: Neighbour) -> usize
     ensures { Wrote out.old at (neighbour_text neighbour) result out.new × (result ≤ at + 10) }
 {
     match neighbour {
-        Neighbour::None => put(out, at, b'-'),
-        Neighbour::Station(n) => put_number(out, at, n),
+        None => put(out, at, b'-'),
+        Some(n) => put_number(out, at, n),
     }
 }
 
@@ -94,8 +90,7 @@ pub fn put_message(out: &mut [u8], at: usize, m: Message) -> usize
     requires { at + 11 ≤ length out.old }
     ensures { Wrote out.old at (message_text m) result out.new × (result ≤ at + 11) }
 {
-    let content = m.content;
-    match content {
+    match m.content {
         Content::Introduction(n) => put_named(out, at, b"i", n),
         Content::RemoveLeft => put(out, at, b'l'),
         Content::RemoveRight => put(out, at, b'r'),

@@ -1,5 +1,7 @@
 -- What is written is accepted and read back as it was.
 use mathlib.Core.Path.{◌≡◌, refl, ap, ◌∙◌, subst}
+use Rattle.std.specs.Prelude.{Some, None}
+use Rattle.line.specs.Types.{Neighbour}
 use mathlib.Core.Bool.{true}
 use mathlib.Core.List.{List, ◌++◌, append_assoc, Memᴰ}
 use Prim.Native.Nat.{ℕ, zero, suc, ◌+◌, ◌-◌, ◌*◌, ◌%◌, ◌≤◌, ◌<◌}
@@ -7,8 +9,6 @@ use native.Mathlib.Omega.{arith}
 use borrow.Author.Tests.{eq-eqb, ne_eqb, le-leb}
 use lib.ListN.{length, get_or, take, drop, length-append}
 use lib.Seq.{take-suc, length-take-le, take-length}
-use Rattle.line.specs.declared.Neighbour.{Neighbour}
-use Rattle.line.specs.declared.Neighbour.TheVariants.{None, Station}
 use Rattle.line.specs.declared.Side.TheVariants.{Left, Right}
 use Rattle.line.specs.declared.Content.{Content}
 use Rattle.line.specs.declared.Content.TheVariants.{Introduction}
@@ -23,7 +23,6 @@ use Rattle.octets.specs.Bytes.{word, quad, le16, le32, sum_words, part, all_zero
 use Rattle.octets.proofs.Endian.{word_written, quad_written}
 use Rattle.octets.proofs.Sums.{sum_append}
 use Rattle.octets.proofs.Zeros.{zeros_written}
-use Rattle.fields.specs.declared.Place.TheVariants.{Good, Bad}
 use Rattle.block.specs.Layout.{check_holds, place_at, places_hold, messages, header_holds, rest_holds, fields_hold, station_of, node_of, fault_of}
 use Rattle.fields.specs.Fields.{message_of, neighbour_of}
 use Rattle.fields.proofs.Contents.{Introduces, content_back, kind_low, carried_low}
@@ -32,18 +31,18 @@ use Rattle.writing.specs.Claims.{Ranged, Writable, WrittenLength, WrittenReadsBa
 use Rattle.writing.proofs.WritingLaws.{length_places_bytes, places_split, length_header, rest_zeros, body, encoded, length_body}
 
 -- A neighbour, to the number that says it, and back.
-neighbour_back : (n : Neighbour) → ((q : ℕ) → n ≡ Station q → Ranged q) → neighbour_of (neighbour_number n) ≡ n
+neighbour_back : (n : Neighbour) → ((q : ℕ) → n ≡ Some q → Ranged q) → neighbour_of (neighbour_number n) ≡ n
 unfolding neighbour_of
 neighbour_back None h = refl
-neighbour_back (Station q) h = let r = h q refl in rw (ne_eqb q 0 (λ (e : q ≡ 0). omega arith))
+neighbour_back (Some q) h = let r = h q refl in rw (ne_eqb q 0 (λ (e : q ≡ 0). omega arith))
 
-neighbour_low : (n : Neighbour) → ((q : ℕ) → n ≡ Station q → Ranged q) → neighbour_number n ≤ 999999
+neighbour_low : (n : Neighbour) → ((q : ℕ) → n ≡ Some q → Ranged q) → neighbour_number n ≤ 999999
 neighbour_low None h = omega arith
-neighbour_low (Station q) h = (h q refl).1
+neighbour_low (Some q) h = (h q refl).1
 
 -- A message place between any bytes.
 place_back : (p s : List ℕ) (m : Message) (i : ℕ) → length p ≡ 20 + 8 * i → ((q : ℕ) → m.content ≡ Introduction q → Ranged q)
-    → place_at (p ++ (place_bytes m ++ s)) i ≡ Good m
+    → place_at (p ++ (place_bytes m ++ s)) i ≡ Some m
 unfolding place_at place_bytes
 place_back p s m i e h =
     let k = kind m.content in
@@ -61,7 +60,7 @@ place_back p s m i e h =
 
 -- The places behind 20 bytes.
 module _ (p s : List ℕ) (ms : List Message) (e : length p ≡ 20) (h : (q : ℕ) → Memᴰ (introduction q) ms → Ranged q) where
-  places_back : (d : Message) (k : ℕ) → k < length ms → place_at (p ++ (places_bytes ms ++ s)) k ≡ Good (get_or ms k d)
+  places_back : (d : Message) (k : ℕ) → k < length ms → place_at (p ++ (places_bytes ms ++ s)) k ≡ Some (get_or ms k d)
   unfolding places_bytes
   places_back d k l =
       let m = get_or ms k d in
@@ -77,19 +76,19 @@ module _ (p s : List ℕ) (ms : List Message) (e : length p ≡ 20) (h : (q : �
   good_back : (k : ℕ) → k ≤ length ms → places_hold (p ++ (places_bytes ms ++ s)) k ≡ true
   unfolding places_hold
   good_back zero l = refl
-  good_back (suc k) l = rw (places_back (message_of Bad) k l, good_back k (omega arith))
+  good_back (suc k) l = rw (places_back (message_of None) k l, good_back k (omega arith))
 
   messages_back : (k : ℕ) → k ≤ length ms → messages (p ++ (places_bytes ms ++ s)) k ≡ take k ms
   unfolding messages
   messages_back zero l = refl
-  messages_back (suc k) l = rw (places_back (message_of Bad) k l, messages_back k (omega arith), take-suc ms k (message_of Bad) l)
+  messages_back (suc k) l = rw (places_back (message_of None) k l, messages_back k (omega arith), take-suc ms k (message_of None) l)
 
 -- The fields of the header, whatever follows it.
 module _ (s : Node) (w : Writable s) (rest : List ℕ) where
-  left_in : (q : ℕ) → s.station.left ≡ Station q → Ranged q
+  left_in : (q : ℕ) → s.station.left ≡ Some q → Ranged q
   left_in = w.neighbours Left
 
-  right_in : (q : ℕ) → s.station.right ≡ Station q → Ranged q
+  right_in : (q : ℕ) → s.station.right ≡ Some q → Ranged q
   right_in = w.neighbours Right
 
   count_bytes : List ℕ

@@ -1,5 +1,6 @@
 -- A block without a fault is rewritten to the same bytes.
 use mathlib.Core.Path.{◌≡◌, refl, sym, ap, ◌∙◌}
+use Rattle.std.specs.Prelude.{Some, None}
 use mathlib.Core.Bool.{Bool, true, false, cond}
 use mathlib.Core.List.{List, [], ◌∷◌, ◌++◌, append_assoc, append-nil}
 use Prim.Native.Nat.{ℕ, zero, suc, ◌+◌, ◌-◌, ◌*◌, ◌%◌, ◌≤◌, ◌<◌}
@@ -7,7 +8,6 @@ use native.Mathlib.Omega.{arith}
 use borrow.Author.Tests.{eqb-true}
 use lib.Dec.{eqb}
 use lib.ListN.{length, drop, replicate, replicate-append-replicate, drop_of_length-le}
-use Rattle.line.specs.declared.Neighbour.TheVariants.{None, Station}
 use Rattle.line.specs.declared.Message.{Message}
 use Rattle.line.specs.Node.{Node}
 use Rattle.line.proofs.MarkWords.{flags_same}
@@ -30,7 +30,7 @@ neighbour_same : (n : ℕ) → neighbour_number (neighbour_of n) ≡ n
 unfolding neighbour_of
 neighbour_same n = go (eqb n 0) refl
   where
-    go : (t : Bool) → eqb n 0 ≡ t → neighbour_number (cond (eqb n 0) None (Station n)) ≡ n
+    go : (t : Bool) → eqb n 0 ≡ t → neighbour_number (cond (eqb n 0) None (Some n)) ≡ n
     go true e = rw e (sym (eqb-true n 0 e))
     go false e = rw e
 

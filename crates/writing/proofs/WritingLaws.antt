@@ -13,7 +13,7 @@ use Rattle.line.specs.Marks.{flags}
 use Rattle.line.specs.Node.{Node}
 use Rattle.bag.specs.declared.Bag.{Bag}
 use Rattle.bag.specs.Held.{held, Sized}
-use Rattle.bag.proofs.Laws.{held_room, held_size}
+use Rattle.bag.proofs.Laws.{held_room}
 use Rattle.octets.specs.Bytes.{le16, le32, sum_words, overwrite}
 use Rattle.octets.proofs.Overwritten.{overwrite_none, overwrite_next, overwrite_at}
 use Rattle.octets.proofs.Sums.{sum_append}
@@ -79,33 +79,30 @@ length_overwrite i vs l h =
     let rest = drop (i + length vs) l in
     length-append (take i l) (vs ++ rest) ∙ omega (arith, length-append vs rest, length-take-le i l (omega arith), length-drop (i + length vs) l)
 
--- the places of the first i of n messages are written over all
-pub record PlacedTo (all : List ℕ) (n : ℕ) (ms : List Message) (l : List ℕ) (i : ℕ) : Type 0 where
-  pub within : i ≤ n
-  pub few : n ≤ 32
-  pub long : length ms ≡ 32
+-- the places of the first i messages are written over all
+pub record PlacedTo (all : List ℕ) (ms : List Message) (l : List ℕ) (i : ℕ) : Type 0 where
+  pub within : i ≤ length ms
+  pub few : length ms ≤ 32
   pub size : length all ≡ 512
   pub same : length l ≡ 512
   pub is : l ≡ overwrite 20 (places_bytes (take i ms)) all
 
-pub placed_none : {all : List ℕ} {b : Bag} {n : ℕ} → Sized b n → length b.messages ≡ 32 → length all ≡ 512 → PlacedTo all n b.messages all 0
+pub placed_none : {all : List ℕ} {ms : List Message} → length ms ≤ 32 → length all ≡ 512 → PlacedTo all ms all 0
 unfolding places_bytes
-placed_none {all} s h e = record { within = omega arith; few = s.few; long = h; size = e; same = e; is = sym (overwrite_none 20 all) }
+placed_none {all} f e = record { within = omega arith; few = f; size = e; same = e; is = sym (overwrite_none 20 all) }
 
-module _ {all l : List ℕ} {n i : ℕ} {ms : List Message} (so_far : PlacedTo all n ms l i) where
+module _ {all l : List ℕ} {i : ℕ} {ms : List Message} (so_far : PlacedTo all ms l i) where
   -- one more
-  pub placed_next : i < n → (d : Message) {x : List ℕ} → x ≡ overwrite (20 + 8 * i) (place_bytes (get_or ms i d)) l → PlacedTo all n ms x (i + 1)
+  pub placed_next : i < length ms → (d : Message) {x : List ℕ} → x ≡ overwrite (20 + 8 * i) (place_bytes (get_or ms i d)) l → PlacedTo all ms x (i + 1)
   unfolding places_bytes place_bytes
   placed_next h d {x} e =
       let f = so_far.few in
-      let g = so_far.long in
       let z = so_far.size in
       let r = so_far.same in
       let at : 20 + 8 * i ≡ 20 + length (places_bytes (take i ms)) = omega (arith, length_places_bytes (take i ms), length-take-le i ms (omega arith)) in
       record {
         within = omega arith;
         few = f;
-        long = g;
         size = z;
         same = ap length e ∙ length_overwrite (20 + 8 * i) (place_bytes (get_or ms i d)) l (omega arith) ∙ r;
         is =
@@ -113,13 +110,6 @@ module _ {all l : List ℕ} {n i : ℕ} {ms : List Message} (so_far : PlacedTo a
             ∙ rw (so_far.is, add-one i, take-suc ms i d (omega arith), places_append (take i ms) (get_or ms i d ∷ []), append-nil)
             (overwrite_next 20 (20 + 8 * i) (places_bytes (take i ms)) (place_bytes (get_or ms i d)) all at (omega arith));
       }
-
-  -- all of them
-  pub placed_all : {b : Bag} → b.messages ≡ ms → n ≤ i → Sized b n → l ≡ overwrite 20 (places_bytes (held b)) all
-  placed_all {b} e h s =
-      let w = so_far.within in
-      let q : i ≡ n = omega arith in
-      so_far.is ∙ rw (q, ← e, held_size b n s.is)
 
 pub length_header : (s : Node) → length (header s) ≡ 20
 unfolding header
@@ -173,11 +163,6 @@ module _ (s : Node) (small : length s.bag ≤ 32) where
   sealed m e d p =
       let sum : sum_words (body s ++ (0 ∷ 0 ∷ [])) ≡ sum_words (body s) = omega (arith, sum_append (body s) (0 ∷ 0 ∷ []) 255 length_body, zero_sum) in
       rw (p, unsealed m e, sum, encoded s) (overwrite_at 510 _ (body s) (0 ∷ 0 ∷ []) length_body)
-
--- the check word of what is written
-pub seal_written : (l : List ℕ) {n : ℕ} {x : List ℕ} → n ≡ sum_words l % 65536 → x ≡ overwrite 510 (le16 (65535 - n)) l
-    → x ≡ overwrite 510 (le16 (65535 - sum_words l % 65536)) l
-seal_written l n x = rw (← n) x
 
 -- the four parts of a block
 pub block_written : (s : declared.Station) (b : Bag) (l : List ℕ) {w x y z : List ℕ} → length l ≡ 512 → length b.messages ≡ 32 → w ≡ replicate (length l) 0

@@ -1,7 +1,6 @@
 -- What is proved of the definitions of a block (the proofs are in proofs/, under the same names in snake case).
-use Rattle.std.specs.Prelude.{ℕ, ◌≤◌, ◌≡◌, true, List, [], ◌∷◌, ◌++◌, length, take, drop, replicate}
+use Rattle.std.specs.Prelude.{ℕ, ◌≤◌, ◌≡◌, true, List, [], ◌∷◌, ◌++◌, length, take, drop, replicate, Some, None}
 use mathlib.Core.List.{Memᴰ as Member}
-use Rattle.line.specs.declared.Neighbour.TheVariants.{None, Station}
 use Rattle.line.specs.declared.Side.{Side}
 use Rattle.line.specs.Message.{introduction, capacity}
 use Rattle.line.specs.Marks.{marks_hold}
@@ -19,7 +18,7 @@ Ranged n = (1 ≤ n) × (n ≤ 999999)
 -- a node that the layout can say
 pub record Writable (s : Node) : Type 0 where
   pub numbered : Ranged (number s)
-  pub neighbours : (d : Side) (q : ℕ) → neighbour d s.station ≡ Station q → Ranged q
+  pub neighbours : (d : Side) (q : ℕ) → neighbour d s.station ≡ Some q → Ranged q
   pub introduced : (q : ℕ) → Member (introduction q) s.bag → Ranged q
   pub marked : marks_hold s.station.marks ≡ true
   pub small : length s.bag ≤ capacity
@@ -40,7 +39,7 @@ RewrittenSame = (b : List ℕ) → length b ≡ 512 → AreBytes b → fault_of 
 -- "A block of station 5, staying, left none, right 9, one introduction of 7 has words that sum to 24 without the check, so the check
 -- word is 65,511 (bytes E7 FF). An all-zero block fails."
 unfoldable pub example_node : Node
-example_node = staying 5 None (Station 9) (introduction 7 ∷ [])
+example_node = staying 5 None (Some 9) (introduction 7 ∷ [])
 
 unfoldable pub example_block : List ℕ
 example_block =

@@ -1,7 +1,6 @@
 -- How a node is written (document 01, "The block"): every byte of its block, the check word last.
-use Rattle.std.specs.Prelude.{ℕ, ◌-◌, ◌*◌, ◌%◌, List, [], ◌∷◌, ◌++◌, length, replicate}
-use Rattle.line.specs.declared.Neighbour.{Neighbour}
-use Rattle.line.specs.declared.Neighbour.TheVariants.{None, Station}
+use Rattle.std.specs.Prelude.{ℕ, ◌-◌, ◌*◌, ◌%◌, List, [], ◌∷◌, ◌++◌, length, replicate, Some, None}
+use Rattle.line.specs.Types.{Neighbour}
 use Rattle.line.specs.declared.Message.{Message}
 use Rattle.line.specs.Marks.{flags}
 use Rattle.line.specs.Message.{kind, carried}
@@ -11,7 +10,7 @@ use Rattle.octets.specs.Bytes.{le16, le32, sum_words}
 -- "0 for none"
 abbrev pub neighbour_number : Neighbour → ℕ
 neighbour_number None = 0
-neighbour_number (Station n) = n
+neighbour_number (Some n) = n
 
 unfoldable pub place_bytes : Message → List ℕ
 place_bytes m = le16 (kind m.content) ++ (le16 0 ++ le32 (carried m.content))

@@ -15,8 +15,8 @@ fn neighbour_number(neighbour: Neighbour) -> u32
     ensures { result ≡ neighbour_number neighbour }
 {
     match neighbour {
-        Neighbour::None => 0,
-        Neighbour::Station(n) => n,
+        None => 0,
+        Some(n) => n,
     }
 }
 
@@ -37,11 +37,8 @@ fn write_places(room: &mut [u8], bag: Bag)
     ensures { room.new ≡ overwrite 20 (places_bytes (held bag)) room.old }
 {
     let n = bag.size();
-    let messages = bag.messages;
-    let mut i = 0;
-    while i < n {
-        write_place(room, 20 + 8 * i, messages[i]);
-        i += 1;
+    for (i, message) in bag.messages[..n].iter().enumerate() {
+        write_place(room, 20 + 8 * i, *message);
     }
 }
 

@@ -1,17 +1,11 @@
-use Rattle.engine.proofs.Before.{run_ends, run_faulty, run_long, run_parted, run_short}
+use Rattle.engine.proofs.Before.{run_refused, run_begun, run_ends}
 use Rattle.engine.proofs.run.Goals as goal
 
-pub returns-then-fault-ne0 : goal.returns-then-fault-ne0
-returns-then-fault-ne0 c = search run_faulty
+pub run_accepted-requires : goal.run_accepted-requires
+run_accepted-requires c = run_begun _ _ _ c.in-Ok.ensures
 
-pub returns-then-steps-ne0 : goal.returns-then-steps-ne0
-returns-then-steps-ne0 c = search run_parted
+pub returns-in-Ok : goal.returns-in-Ok
+returns-in-Ok c = run_ends _ _ _ c.in-Ok.ensures c.run_accepted.ensures
 
-pub returns-then-steps-gt4096 : goal.returns-then-steps-gt4096
-returns-then-steps-gt4096 c = search run_long
-
-pub returns-then-room-table : goal.returns-then-room-table
-returns-then-room-table c = search run_short
-
-pub returns : goal.returns
-returns c = search run_ends
+pub returns-in-Err : goal.returns-in-Err
+returns-in-Err c = run_refused _ _ _ c.in-Err.ensures

@@ -1,9 +1,6 @@
-use borrow.Author.Rules.{rules}
-use Rattle.lists.proofs.Dropping.{shift_all, shift_next}
+use Rattle.std.proofs.Common.{arith}
+use Rattle.lists.proofs.Dropping.{rotated_away}
 use Rattle.index.proofs.drop_entry.Goals as goal
 
-pub loop-j-preserved : goal.loop-j-preserved
-loop-j-preserved c = search (shift_next, rules)
-
 pub returns : goal.returns
-returns c = search (shift_all, rules)
+returns c = let a = c.args in rotated_away a.index a.n a.i (omega arith) (omega arith) c.rotate_left.ensures.after

@@ -1,11 +1,8 @@
-use Rattle.index.proofs.Entries.{rises_all, rises_more, rises_not}
+use Rattle.std.proofs.Common.{◌/◌, ltb, rules}
+use Rattle.std.proofs.lemmas.List.Sorted.{answers_always}
+use Rattle.index.proofs.Entries.{numbers_rise}
 use Rattle.index.proofs.rises.Goals as goal
 
-pub returns-then-index-i : goal.returns-then-index-i
-returns-then-index-i c = search rises_not
-
-pub loop-i-preserved : goal.loop-i-preserved
-loop-i-preserved c = search rises_more
-
 pub returns : goal.returns
-returns c = search rises_all
+returns c =
+    numbers_rise c.args.index.now c.is_sorted_by.result (c.is_sorted_by.ensures.cases (λ x y. ltb (x / 64) (y / 64)) (answers_always _ _ _ (λ f a r f' called. search rules)))

@@ -1,9 +1,8 @@
-use Rattle.std.proofs.Common.{◌+◌, ◌/◌, ◌%◌, refl, arith}
-use Rattle.octets.specs.Bytes.{le16}
-use Rattle.octets.proofs.Overwritten.{overwrite_next}
+use Rattle.std.proofs.Common.{◌+◌, refl}
+use Rattle.octets.specs.Bytes.{le32}
+use Rattle.octets.proofs.Endian.{bytes_le32}
+use Rattle.octets.proofs.Overwritten.{part_replaced}
 use Rattle.octets.proofs.write_quad.Goals as goal
 
 pub returns : goal.returns
-returns c =
-    let a = c.args in
-    cc (overwrite_next a.at (a.at + 2) (le16 (a.x % 65536)) (le16 (a.x / 65536)) a.room.now refl (omega arith))
+returns c = let a = c.args in cc (part_replaced a.at (a.at + 4) (le32 a.x) a.room.now refl, bytes_le32 a.x)

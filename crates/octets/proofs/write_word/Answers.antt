@@ -1,6 +1,7 @@
-use Rattle.std.proofs.Common.{add-one, arith}
-use Rattle.octets.proofs.Overwritten.{stored}
+use Rattle.std.proofs.Common.{◌+◌, refl}
+use Rattle.octets.specs.Bytes.{le16}
+use Rattle.octets.proofs.Overwritten.{part_replaced}
 use Rattle.octets.proofs.write_word.Goals as goal
 
 pub returns : goal.returns
-returns c = rw (add-one c.args.at) (stored _ c.args.room.now c.args.at (omega arith))
+returns c = let a = c.args in cc (part_replaced a.at (a.at + 2) (le16 a.x) a.room.now refl)

@@ -1,4 +1,3 @@
-use Rattle.std.proofs.Common.{rules}
 use Rattle.engine.proofs.Written.{said_within, said_accepted}
 use Rattle.printing.proofs.Printing.{lists, written_length}
 use Rattle.printing.proofs.list_run.Goals as goal

@@ -11,8 +11,8 @@ block_at-requires c = search slot_within
 pub loop-i-preserved : goal.loop-i-preserved
 loop-i-preserved c = search stand_next
 
-pub returns-else-stands : goal.returns-else-stands
-returns-else-stands c = search stand_not
+pub returns-then-not-stands : goal.returns-then-not-stands
+returns-then-not-stands c = search stand_not
 
 pub returns : goal.returns
 returns c = search stand_all

@@ -1,15 +1,16 @@
+use borrow.Author.Rules.{rules}
 use Rattle.table.proofs.Lines.{inspected_long, inspected_size}
 use Rattle.questions.proofs.Asking.{line_refused, line_accepted}
 use Rattle.questions.proofs.in_line.Goals as goal
 
-pub returns-then-inspected-ne0 : goal.returns-then-inspected-ne0
-returns-then-inspected-ne0 c = search line_refused
+pub returns-in_err-index : goal.returns-in_err-index
+returns-in_err-index c = line_refused c.in_err-index.ensures (search rules)
 
 pub slice_bounds-index-end : goal.slice_bounds-index-end
-slice_bounds-index-end c = search inspected_long
+slice_bounds-index-end c = inspected_long c.in_ok-index.ensures
 
 pub slice_bounds-lasts-end : goal.slice_bounds-lasts-end
-slice_bounds-lasts-end c = search inspected_size
+slice_bounds-lasts-end c = inspected_size c.in_ok-index.ensures
 
 pub returns : goal.returns
-returns c = search line_accepted
+returns c = line_accepted c.in_ok-index.ensures c.lasts.ensures

@@ -1,4 +1,4 @@
-use Rattle.std.proofs.Common.{◌≡◌, ◌-◌, ◌≤◌, length}
+use Rattle.std.proofs.Common.{◌≡◌, ◌≤◌, length}
 use Rattle.rolls.specs.Roll.{record_in}
 use Rattle.walks.proofs.Stage.{stage}
 use Rattle.rolls.proofs.fill.Given as goal
@@ -7,6 +7,3 @@ use Rattle.rolls.proofs.fill.Given as goal
 abbrev pub invariant-loop-i : goal.invariant-loop-i
 invariant-loop-i l =
     record { within : l.i ≤ length l.stations; filled : l.records ≡ stage (record_in l.roll) l.stations l.initial.records l.i }
-
-abbrev pub decreases-loop-i : goal.decreases-loop-i
-decreases-loop-i l = length l.stations - l.i

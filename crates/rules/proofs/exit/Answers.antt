@@ -4,8 +4,8 @@ use Rattle.rules.proofs.exit.Goals as goal
 pub returns-then-not-marks : goal.returns-then-not-marks
 returns-then-not-marks c = search exit_staying
 
-pub returns-in-May : goal.returns-in-May
-returns-in-May c = search exits
+pub returns-in-Ok : goal.returns-in-Ok
+returns-in-Ok c = search exits
 
-pub returns-in-MayNot : goal.returns-in-MayNot
-returns-in-MayNot c = search exit_held
+pub returns-in-Err : goal.returns-in-Err
+returns-in-Err c = search exit_held

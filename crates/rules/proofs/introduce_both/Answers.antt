@@ -7,5 +7,5 @@ returns-in-None c = search no_left
 pub returns-in-None-right : goal.returns-in-None-right
 returns-in-None-right c = search no_right
 
-pub returns-in-Station-right : goal.returns-in-Station-right
-returns-in-Station-right c = search both_introduced
+pub returns-in-Some-right : goal.returns-in-Some-right
+returns-in-Some-right c = search both_introduced

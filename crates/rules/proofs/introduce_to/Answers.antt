@@ -4,5 +4,5 @@ use Rattle.rules.proofs.introduce_to.Goals as goal
 pub returns-in-None : goal.returns-in-None
 returns-in-None c = search nothing_introduced
 
-pub returns-in-Station : goal.returns-in-Station
-returns-in-Station c = search one_introduced
+pub returns-in-Some : goal.returns-in-Some
+returns-in-Some c = search one_introduced

@@ -4,5 +4,5 @@ use Rattle.rules.proofs.is_below.Goals as goal
 pub returns-in-None : goal.returns-in-None
 returns-in-None c = search below_none
 
-pub returns-in-Station : goal.returns-in-Station
-returns-in-Station c = search below_station
+pub returns-in-Some : goal.returns-in-Some
+returns-in-Some c = search below_station

@@ -4,5 +4,5 @@ use Rattle.rules.proofs.send_to.Goals as goal
 pub returns-in-None : goal.returns-in-None
 returns-in-None c = search sent_none
 
-pub returns-in-Station : goal.returns-in-Station
-returns-in-Station c = search sent_one
+pub returns-in-Some : goal.returns-in-Some
+returns-in-Some c = search sent_one

@@ -4,4 +4,4 @@ use Rattle.station_line.proofs.told_as.Goals as goal
 
 pub returns : goal.returns
 unfolding told_as
-returns c = rw (c.number.ensures, c.yes.ensures)
+returns c = rw (c.told_number.ensures, c.told_yes.ensures)

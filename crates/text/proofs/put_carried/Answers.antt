@@ -3,5 +3,5 @@ use Rattle.text.proofs.Lines.{wrote_nothing}
 use Rattle.text.proofs.put_carried.Goals as goal
 
 -- Nothing, or the reason.
-pub returns-in-Nothing : goal.returns-in-Nothing
-returns-in-Nothing c = (search wrote_nothing, omega arith)
+pub returns-in-None : goal.returns-in-None
+returns-in-None c = (search wrote_nothing, omega arith)

@@ -1,10 +1,6 @@
-use Prim.Native.Nat.{◌-◌}
 use Rattle.text.proofs.Blocks.{LinesTo}
 use Rattle.text.proofs.put_lines.Given as goal
 
 -- The lines of the first k blocks are written.
 abbrev pub invariant-loop-k : goal.invariant-loop-k
 invariant-loop-k l = LinesTo l.initial.out l.at l.table l.k l.end l.out
-
-abbrev pub decreases-loop-k : goal.decreases-loop-k
-decreases-loop-k l = l.n - l.k

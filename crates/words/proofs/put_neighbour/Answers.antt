@@ -6,5 +6,5 @@ use Rattle.words.proofs.put_neighbour.Goals as goal
 pub returns-in-None : goal.returns-in-None
 returns-in-None c = (search wrote_nobody, omega arith)
 
-pub returns-in-Station : goal.returns-in-Station
-returns-in-Station c = (search wrote_station, omega arith)
+pub returns-in-Some : goal.returns-in-Some
+returns-in-Some c = (search wrote_station, omega arith)

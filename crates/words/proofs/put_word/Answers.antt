@@ -1,8 +1,6 @@
-use Rattle.words.proofs.Written.{word_none, word_next}
+use Rattle.words.proofs.Written.{wrote_word}
 use Rattle.words.proofs.put_word.Goals as goal
 
-pub loop-i-init : goal.loop-i-init
-loop-i-init c = search word_none
-
-pub loop-i-preserved : goal.loop-i-preserved
-loop-i-preserved c = search word_next
+-- One copy is one word written.
+pub returns : goal.returns
+returns c = search wrote_word

@@ -1,6 +1,5 @@
-use Rattle.bag.proofs.Laws.{length_mapped}
 use Rattle.writing.proofs.WritingLaws.{block_written}
 use Rattle.writing.proofs.write_block.Goals as goal
 
 pub returns : goal.returns
-returns c = search (block_written, length_mapped)
+returns c = search block_written

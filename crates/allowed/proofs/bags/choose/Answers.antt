@@ -4,8 +4,8 @@ use Rattle.allowed.proofs.bags.choose.Goals as goal
 pub number_in-q-requires : goal.number_in-q-requires
 number_in-q-requires c = search chosen_small
 
-pub loop-j-preserved : goal.loop-j-preserved
-loop-j-preserved c = search chosen_next
+pub loop-entry-preserved : goal.loop-entry-preserved
+loop-entry-preserved c = search chosen_next
 
 pub returns : goal.returns
-returns c = (chosen_all c.loop-j.invariant c.loop-j-test.false, chosen_size c.loop-j.invariant, chosen_few c.loop-j.invariant)
+returns c = (chosen_all c.loop-entry.invariant c.loop-entry-test.false, chosen_size c.loop-entry.invariant, chosen_few c.loop-entry.invariant)

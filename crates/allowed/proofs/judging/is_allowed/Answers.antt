@@ -4,11 +4,11 @@ use Rattle.allowed.proofs.judging.is_allowed.Goals as goal
 pub block_at-requires : goal.block_at-requires
 block_at-requires c = search standing_slot
 
-pub plan-plan-requires : goal.plan-plan-requires
-plan-plan-requires c = search standing_plan
+pub plan-requires : goal.plan-requires
+plan-requires c = search standing_plan
 
-pub returns-in-Done : goal.returns-in-Done
-returns-in-Done c = search is_done_lem
+pub returns-in-Ok : goal.returns-in-Ok
+returns-in-Ok c = search is_done_lem
 
-pub returns-in-Refused : goal.returns-in-Refused
-returns-in-Refused c = search is_refused
+pub returns-in-Err : goal.returns-in-Err
+returns-in-Err c = search is_refused

@@ -16,7 +16,7 @@ pub numbers_of-numbers-requires : goal.numbers_of-numbers-requires
 numbers_of-numbers-requires c = (search rules, search standing_clean)
 
 pub choose-chosen-requires : goal.choose-chosen-requires
-choose-chosen-requires c = (search index_few, search index_small, search rules)
+choose-chosen-requires c = (search index_few, search index_small)
 
 pub has_kind-left-requires : goal.has_kind-left-requires
 has_kind-left-requires c = (search rules, search standing_clean)

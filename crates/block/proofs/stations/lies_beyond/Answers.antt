@@ -4,5 +4,5 @@ use Rattle.block.proofs.stations.lies_beyond.Goals as goal
 pub returns-in-None : goal.returns-in-None
 returns-in-None c = search beyond_none
 
-pub returns-in-Station : goal.returns-in-Station
-returns-in-Station c = search beyond_station
+pub returns-in-Some : goal.returns-in-Some
+returns-in-Some c = search beyond_station

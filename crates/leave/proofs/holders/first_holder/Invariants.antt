@@ -1,11 +1,6 @@
-use Prim.Native.Nat.{◌-◌}
-use lib.ListN.{length}
 use Rattle.table.specs.Blocks.{line_of}
 use Rattle.moves.proofs.Holding.{NoneTo}
 use Rattle.leave.proofs.holders.first_holder.Given as goal
 
 abbrev pub invariant-loop-j : goal.invariant-loop-j
 invariant-loop-j l = NoneTo l.p (line_of l.table) l.j
-
-abbrev pub decreases-loop-j : goal.decreases-loop-j
-decreases-loop-j l = length l.index - l.j

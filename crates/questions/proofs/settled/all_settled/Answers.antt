@@ -3,8 +3,8 @@ use Rattle.table.proofs.Lines.{slot_within, slot_count}
 use Rattle.questions.proofs.Staying.{settled_none, settled_next, settled_not, settled_all}
 use Rattle.questions.proofs.settled.all_settled.Goals as goal
 
-pub loop-i-init : goal.loop-i-init
-loop-i-init c = search settled_none
+pub loop-entry-init : goal.loop-entry-init
+loop-entry-init c = search settled_none
 
 pub block_at-requires : goal.block_at-requires
 block_at-requires c = search slot_within
@@ -12,11 +12,11 @@ block_at-requires c = search slot_within
 pub is_settled-requires : goal.is_settled-requires
 is_settled-requires c = (search rules, search slot_count)
 
-pub loop-i-preserved : goal.loop-i-preserved
-loop-i-preserved c = search settled_next
+pub loop-entry-preserved : goal.loop-entry-preserved
+loop-entry-preserved c = search settled_next
 
-pub returns-else-is_settled : goal.returns-else-is_settled
-returns-else-is_settled c = search settled_not
+pub returns-then-not-is_settled : goal.returns-then-not-is_settled
+returns-then-not-is_settled c = search settled_not
 
 pub returns : goal.returns
 returns c = search settled_all

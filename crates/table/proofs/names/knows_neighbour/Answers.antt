@@ -7,6 +7,6 @@ pub returns-in-None : goal.returns-in-None
 unfolding knows_neighbour
 returns-in-None c = λ line h. rw c.in-None.is
 
-pub returns-in-Station : goal.returns-in-Station
+pub returns-in-Some : goal.returns-in-Some
 unfolding knows_neighbour
-returns-in-Station c = λ line h. rw c.in-Station.is (c.is_listed.ensures ∙ h _)
+returns-in-Some c = λ line h. rw c.in-Some.is (c.is_listed.ensures ∙ h _)

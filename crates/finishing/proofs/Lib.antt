@@ -1,2 +1,0 @@
--- What the proof of the end shares.
-pub mod Ending
