@@ -1,9 +1,9 @@
 -- A step of the station at place i, judged from the blocks where they lie: as the run judges it over the arrays read from them.
 use Prim.Native.Nat.{ℕ, ◌-◌, ◌/◌, ◌≤◌, ◌<◌}
-use Rattle.std.specs.Prelude.{Ok, Err}
+use Rattle.std.specs.Prelude.{Result, is_ok}
 use Rattle.line.specs.Types.{Leave}
 use mathlib.Core.Path.{◌≡◌, refl, sym, ap, ◌∙◌}
-use mathlib.Core.Bool.{Bool, true, false}
+use mathlib.Core.Bool.{Bool}
 use mathlib.Core.List.{List}
 use native.Mathlib.Omega.{arith}
 use lib.Dec.{eqb}
@@ -14,10 +14,8 @@ use Rattle.lists.proofs.Numbers.{first_at_lem}
 use Rattle.line.specs.declared.Action.{Action}
 use Rattle.line.specs.declared.Refusal.{Refusal}
 use Rattle.line.specs.declared.Station as declared
-use Rattle.line.specs.Answer.{is_done}
 use Rattle.line.specs.Node.{Line, number, nobody, with_bag_in_order}
 use Rattle.line.specs.Leave.{leave_of}
-use Rattle.line.specs.Step.{step}
 use Rattle.index.specs.Index.{slot_in, numbers_in}
 use Rattle.index.proofs.Entries.{numbers_length}
 use Rattle.block.specs.Layout.{station_of, node_of}
@@ -81,11 +79,11 @@ module _ {t index counts : List ℕ} {i : ℕ} {l : Leave} {found : Bool} {a : A
   abbrev s : Standing t index counts i
   s = k.standing
 
-  module _ {b : List ℕ} (read : b ≡ block_at t (slot_in (get_or index i 0))) {station : declared.Station} (is : station ≡ station_of b) {plan : Plan} (plans : Plans index counts i l found station a plan) where
+  module _ {b : List ℕ} (read : b ≡ block_at t (slot_in (get_or index i 0))) {station : declared.Station} (is : station ≡ station_of b) {r : Result Plan Refusal} (plans : Plans index counts i l found station a r) where
     at_place : get_or (line_in (arrays_of t)) i nobody ≡ node_at t i
     at_place = ap (λ (l : Line). get_or l i nobody) (same_line s)
 
-    judged : Judged (arrays_of t) (step_by (node_at t i) a) i found plan
+    judged : Judged (arrays_of t) (step_by (node_at t i) a) i found r
     judged = record {
       leave = l;
       between = between s;
@@ -96,11 +94,5 @@ module _ {t index counts : List ℕ} {i : ℕ} {l : Leave} {found : Bool} {a : A
       plans = rw (part s, ← s.counted, same_slot s, filled_at t (slot_in (get_or index i 0)) (standing_slot s) station_of nobody.station nobody.station, ← read, ← is) plans;
     }
 
-    told : {r : Bool} → is_done (step (line_in (arrays_of t)) (step_by (node_at t i) a)) ≡ r → r ≡ is_allowed (line_of t) (step_by (node_at t i) a)
-    told e = sym (ap (λ (l : Line). is_allowed l (step_by (node_at t i) a)) (sym (same_line s)) ∙ e)
-
-    pub is_done_lem : plan.verdict ≡ Ok tt → true ≡ is_allowed (line_of t) (step_by (node_at t i) a)
-    is_done_lem e = told ((tells judged).0 e)
-
-    pub is_refused : (r : Refusal) → plan.verdict ≡ Err r → false ≡ is_allowed (line_of t) (step_by (node_at t i) a)
-    is_refused r e = told ((tells judged).1 r e)
+    pub is_allowed_lem : {b : Bool} → b ≡ is_ok r → b ≡ is_allowed (line_of t) (step_by (node_at t i) a)
+    is_allowed_lem e = e ∙ sym (tells r judged) ∙ ap (λ (l : Line). is_allowed l (step_by (node_at t i) a)) (same_line s)

@@ -17,8 +17,8 @@ pub(crate) struct Chosen {
 }
 
 // The number of each place: that of an introduction, 0 of a removal and past the count.
-pub(crate) fn numbers_of(b: &[u8]) -> [u32; 32]
-    requires { (length b.now ≡ 512) × (fault_of b.now ≡ 0) }
+pub(crate) fn numbers_of(b: &[u8; 512]) -> [u32; 32]
+    requires { fault_of b.now ≡ 0 }
     ensures { (q : ℕ) → 0 < q → any (eqb q) result ≡ holds (introduction q) (node_of b.now).bag }
 {
     let n = word_at(b, 16) as usize;
@@ -30,8 +30,8 @@ pub(crate) fn numbers_of(b: &[u8]) -> [u32; 32]
 }
 
 // Whether a message of this kind is there.
-pub(crate) fn has_kind(b: &[u8], kind: u16) -> bool
-    requires { (length b.now ≡ 512) × (fault_of b.now ≡ 0) }
+pub(crate) fn has_kind(b: &[u8; 512], kind: u16) -> bool
+    requires { fault_of b.now ≡ 0 }
     ensures { result ≡ any (of_kind kind) (node_of b.now).bag }
 {
     let n = word_at(b, 16) as usize;

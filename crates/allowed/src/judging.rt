@@ -25,8 +25,5 @@ pub(crate) fn is_allowed(
 {
     let own = (index[i] % 64) as usize;
     let station = station_of(block_at(table, own));
-    match plan(index, counts, i, leave, found, station, action).verdict {
-        Ok(()) => true,
-        Err(_) => false,
-    }
+    plan(index, counts, i, leave, found, station, action).is_ok()
 }

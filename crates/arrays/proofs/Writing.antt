@@ -1,5 +1,5 @@
 -- The blocks of a line, written one after another into a room whose rest stays as it was (document 01, "The block").
-use Prim.Native.Nat.{ℕ, ◌+◌, ◌-◌, ◌*◌, ◌≤◌, ◌<◌}
+use Prim.Native.Nat.{ℕ, ◌+◌, ◌*◌, ◌≤◌, ◌<◌}
 use mathlib.Core.Path.{◌≡◌, refl, ap, ◌∙◌}
 use mathlib.Core.List.Memᴰ.{head as here}
 use mathlib.Core.List.Memᴰ.{tail as there}
@@ -14,6 +14,7 @@ use Rattle.line.specs.declared.Station as declared
 use Rattle.line.specs.Node.{Node, Line, nobody}
 use Rattle.bag.specs.declared.Bag.{Bag}
 use Rattle.bag.specs.Held.{held, ordered}
+use Rattle.bag.proofs.Laws.{held_room}
 use Rattle.index.specs.Index.{slot_in}
 use Rattle.writing.specs.Encoding.{encode}
 use Rattle.writing.proofs.ReadBack.{written_length}
@@ -61,17 +62,17 @@ module _ {before : List ℕ} {a : Arrays} {k : ℕ} {room : List ℕ} (so_far : 
   -- one more: the station in the slot of entry k, and its messages in written order
   pub written_next : k < a.n → 512 * a.n ≤ length before → k < length a.index → length a.stations ≡ 64 → length a.bags ≡ 64
       → (d : declared.Station) (e : List Message) (b : Bag) → held b ≡ ordered (record { messages = get_or a.bags (slot_of a k) e; count = get_or a.counts (slot_of a k) 0 })
-      → {block : List ℕ} → length block ≡ 512 → block ≡ encode (record { station = get_or a.stations (slot_of a k) d; bag = held b })
-      → WrittenTo before a (k + 1) (take (512 * k) room ++ (block ++ drop (512 * k + 512 - 512 * k) (drop (512 * k) room)))
-  written_next h fits lo ls lb d e b o {block} l is =
+      → length b.messages ≡ 32 → {block : List ℕ} → block ≡ encode (record { station = get_or a.stations (slot_of a k) d; bag = held b })
+      → WrittenTo before a (k + 1) (take (512 * k) room ++ (block ++ drop 512 (drop (512 * k) room)))
+  written_next h fits lo ls lb d e b o m {block} is =
       let line = firsts a k in
       let slot = slot_of a k in
       let same : block ≡ encode (node_at a slot) = is ∙ rw (o, at_any a.stations slot d nobody.station (omega arith), at_any a.bags slot e [] (omega arith)) in
+      let l : length block ≡ 512 = ap length is ∙ written_length _ (held_room b m) in
       let more : bytes_of (firsts a (k + 1)) ≡ bytes_of line ++ block = rw (firsts_more a k lo, bytes_more, ← same) in
-      let m : 512 * k + 512 - 512 * k ≡ 512 = omega arith in
       let z : 512 * (k + 1) ≡ 512 * k + 512 = omega arith in
-      let whole : take (512 * k) room ++ (block ++ drop (512 * k + 512 - 512 * k) (drop (512 * k) room)) ≡ bytes_of (firsts a (k + 1)) ++ drop (512 * (k + 1)) before =
-      rw (m, z, more, so_far.is) (framed (bytes_of line) block before (512 * k) 512 so_far.long) in
+      let whole : take (512 * k) room ++ (block ++ drop 512 (drop (512 * k) room)) ≡ bytes_of (firsts a (k + 1)) ++ drop (512 * (k + 1)) before =
+      rw (z, more, so_far.is) (framed (bytes_of line) block before (512 * k) 512 so_far.long) in
       let long : length (bytes_of (firsts a (k + 1))) ≡ 512 * (k + 1) = rw (more, length-append) (omega arith) in
       record { within = omega arith; size = ap length whole ∙ simp (length-append, length-drop) (omega arith); long = long; is = whole }
 

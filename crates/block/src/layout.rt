@@ -1,5 +1,5 @@
 // Whether the fields of a block are inside the layout (document 01, "The block").
-ghost use Rattle.std.specs.Prelude.{◌≡◌, ◌≤◌, length};
+ghost use Rattle.std.specs.Prelude.{◌≡◌, ◌≤◌};
 ghost use Rattle.octets.specs.Bytes.{word};
 ghost use Rattle.block.specs.Layout.{header_holds, rest_holds, fields_hold};
 
@@ -8,8 +8,7 @@ use fields::{count_holds, flags_hold, in_range, layout_holds, neighbour_holds, s
 use octets::{quad_at, word_at, zero_between};
 
 // Bytes 0 to 19.
-fn header_holds(b: &[u8]) -> bool
-    requires { length b.now ≡ 512 }
+fn header_holds(b: &[u8; 512]) -> bool
     ensures { result ≡ header_holds b.now }
 {
     layout_holds(word_at(b, 0))
@@ -22,16 +21,15 @@ fn header_holds(b: &[u8]) -> bool
 }
 
 // Bytes 20 to 509: the counted places are good, and every byte after them is 0.
-fn rest_holds(b: &[u8]) -> bool
-    requires { (length b.now ≡ 512) × (word b.now 16 ≤ 32) }
+fn rest_holds(b: &[u8; 512]) -> bool
+    requires { word b.now 16 ≤ 32 }
     ensures { result ≡ rest_holds b.now }
 {
     let n = word_at(b, 16) as usize;
     places_hold(b, n) & zero_between(b, 20 + 8 * n, 276) & zero_between(b, 276, 510)
 }
 
-pub fn fields_hold(b: &[u8]) -> bool
-    requires { length b.now ≡ 512 }
+pub fn fields_hold(b: &[u8; 512]) -> bool
     ensures { result ≡ fields_hold b.now }
 {
     header_holds(b) && rest_holds(b)

@@ -6,7 +6,7 @@ pub mod messages;
 pub mod places;
 pub mod stations;
 
-ghost use Rattle.std.specs.Prelude.{◌≡◌, ◌≤◌, length};
+ghost use Rattle.std.specs.Prelude.{◌≡◌, ◌≤◌};
 ghost use Rattle.line.specs.Answer.{number_of};
 ghost use Rattle.octets.specs.Bytes.{word};
 ghost use Rattle.block.specs.Layout.{check_holds, row_of, first_fault, fault_of};
@@ -21,8 +21,7 @@ use stations::has_sides;
 pub use stations::station_of;
 
 // "The 256 words of 16 bits, added with wrap at 65,536, give 65,535."
-fn check_holds(b: &[u8]) -> bool
-    requires { length b.now ≡ 512 }
+fn check_holds(b: &[u8; 512]) -> bool
     ensures { result ≡ check_holds b.now }
 {
     check_sum(b) == 65535
@@ -44,8 +43,7 @@ fn first_fault(check: bool, fields: bool, sides: bool) -> Option<Fault>
     None
 }
 
-pub fn fault_of(b: &[u8]) -> Option<Fault>
-    requires { length b.now ≡ 512 }
+pub fn fault_of(b: &[u8; 512]) -> Option<Fault>
     ensures { number_of result ≡ fault_of b.now }
 {
     let check = check_holds(b);
@@ -55,8 +53,8 @@ pub fn fault_of(b: &[u8]) -> Option<Fault>
 }
 
 // The messages of the counted places, as they are stored.
-pub fn bag_of(b: &[u8]) -> Bag
-    requires { (length b.now ≡ 512) × (word b.now 16 ≤ 32) }
+pub fn bag_of(b: &[u8; 512]) -> Bag
+    requires { word b.now 16 ≤ 32 }
     ensures { (result.messages ≡ row_of b.now) × (result.count ≡ word b.now 16) }
 {
     let n = word_at(b, 16) as usize;

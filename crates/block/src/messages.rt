@@ -1,5 +1,5 @@
 // A test of the messages in the counted places of a block, one after another (document 01, "The block").
-ghost use Rattle.std.specs.Prelude.{◌≡◌, Bool, ◌≤◌, length};
+ghost use Rattle.std.specs.Prelude.{◌≡◌, Bool, ◌≤◌};
 ghost use Rattle.lists.specs.Lists.{any};
 ghost use Rattle.line.specs.declared.Message.{Message};
 ghost use Rattle.octets.specs.Bytes.{word};
@@ -11,8 +11,8 @@ use line::Message;
 use octets::word_at;
 
 // Whether some message passes the test, whatever the test `p` says of each.
-pub fn any_message<F: Fn(Message) -> bool>(b: &[u8], test: F) -> bool
-    requires in_block { (length b.now ≡ 512) × (word b.now 16 ≤ 32) }
+pub fn any_message<F: Fn(Message) -> bool>(b: &[u8; 512], test: F) -> bool
+    requires in_block { word b.now 16 ≤ 32 }
     requires callable { F.IsAlwaysCallable test }
     ensures { (p : Message → Bool) → ((m : Message) (t : Bool) → F.post test m t → t ≡ p m) → result ≡ any p (messages b.now (word b.now 16)) }
 {

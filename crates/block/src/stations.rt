@@ -1,6 +1,6 @@
 // The station that a block holds, and the rule that its neighbours lie on their own sides (document 01, "The block" and "The
 // numbers a crew may see", 5).
-ghost use Rattle.std.specs.Prelude.{◌≡◌, ◌&&◌, length};
+ghost use Rattle.std.specs.Prelude.{◌≡◌, ◌&&◌};
 ghost use Rattle.line.specs.Accepted.{lies_beyond};
 ghost use Rattle.block.specs.Layout.{station_of};
 
@@ -9,8 +9,7 @@ use line::{Marks, Neighbour, Side, Station};
 use octets::{quad_at, word_at};
 
 // The station of any 512 bytes.
-pub fn station_of(b: &[u8]) -> Station
-    requires { length b.now ≡ 512 }
+pub fn station_of(b: &[u8; 512]) -> Station
     ensures { result ≡ station_of b.now }
 {
     let number = quad_at(b, 4);

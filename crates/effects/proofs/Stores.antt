@@ -60,15 +60,15 @@ abbrev pub with_station : Arrays → ℕ → declared.Station → Arrays
 with_station a k s = record { n = a.n; index = a.index; stations = set a.stations k s; bags = a.bags; counts = a.counts }
 
 -- what storing a bag in slot k makes of the arrays, where a message was taken out of it
-abbrev pub OwnStored : Bool → ℕ → Bag → Arrays → Arrays → Type 0
-OwnStored true k b a after = after ≡ with_bags a (set a.bags k b.messages) (set a.counts k b.count)
-OwnStored false k b a after = after ≡ a
+abbrev pub OwnStored : Option Bag → ℕ → Arrays → Arrays → Type 0
+OwnStored (Some b) k a after = after ≡ with_bags a (set a.bags k b.messages) (set a.counts k b.count)
+OwnStored None k a after = after ≡ a
 
-module _ (k : ℕ) (b : Bag) (a : Arrays) {after : Arrays} {t : Bool} where
-  pub own_taken : t ≡ true → after ≡ with_bags a (set a.bags k b.messages) (set a.counts k b.count) → OwnStored t k b a after
-  own_taken e f = rw e f
+module _ (k : ℕ) (a : Arrays) {after : Arrays} {o : Option Bag} where
+  pub own_taken : (b : Bag) → o ≡ Some b → after ≡ with_bags a (set a.bags k b.messages) (set a.counts k b.count) → OwnStored o k a after
+  own_taken b e f = rw e f
 
-  pub own_untaken : t ≡ false → after ≡ a → OwnStored t k b a after
+  pub own_untaken : o ≡ None → after ≡ a → OwnStored o k a after
   own_untaken e f = rw e f
 
 -- what storing a message in slot k makes of the arrays, where one is sent
@@ -89,9 +89,9 @@ pub record SameIndex (a after : Arrays) : Type 0 where
   pub size : after.n ≡ a.n
   pub is : after.index ≡ a.index
 
-pub own_index : (t : Bool) (k : ℕ) (b : Bag) (a : Arrays) {after : Arrays} → OwnStored t k b a after → SameIndex a after
-own_index true k b a p = rw p (record { size = refl; is = refl })
-own_index false k b a p = rw p (record { size = refl; is = refl })
+pub own_index : (o : Option Bag) (k : ℕ) (a : Arrays) {after : Arrays} → OwnStored o k a after → SameIndex a after
+own_index (Some b) k a p = rw p (record { size = refl; is = refl })
+own_index None k a p = rw p (record { size = refl; is = refl })
 
 pub arrived_index : (x : Option Sending) (k : ℕ) (a : Arrays) {after : Arrays} → Arrived x k a after → SameIndex a after
 arrived_index None k a p = rw p (record { size = refl; is = refl })

@@ -68,8 +68,8 @@ impl<'a> Tally<'a> {
     }
 
     // The messages in the counted places of a block, of which p is the station.
-    fn add_messages(&mut self, b: &[u8], p: u32)
-        requires b_len { (length b.now ≡ 512) × (word b.now 16 ≤ 32) }
+    fn add_messages(&mut self, b: &[u8; 512], p: u32)
+        requires b_len { word b.now 16 ≤ 32 }
         requires ready { Ready 3000000 self.old }
         ensures added { AddsMessages p (messages b.now (word b.now 16)) (numbers_in self.old.index.now) self.old.counts.now self.old.smallest.now self.new.counts.now self.new.smallest.now }
         ensures kept { Keeps self.old self.new }
@@ -81,8 +81,8 @@ impl<'a> Tally<'a> {
     }
 
     // What the station of a block mentions: its left, its right, and the introductions in its bag.
-    fn add_block(&mut self, b: &[u8])
-        requires b_len { (length b.now ≡ 512) × (word b.now 16 ≤ 32) }
+    fn add_block(&mut self, b: &[u8; 512])
+        requires b_len { word b.now 16 ≤ 32 }
         requires ready { Ready 2000000 self.old }
         ensures added { AddsNode (node_of b.now) (numbers_in self.old.index.now) self.old.counts.now self.old.smallest.now self.new.counts.now self.new.smallest.now }
         ensures kept { Keeps self.old self.new }

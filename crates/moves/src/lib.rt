@@ -4,14 +4,12 @@
 pub mod holders;
 pub mod sends;
 
-use line::Refusal;
 use rules::Decision;
 
-// A step worked out before anything is stored: what the station decides, the slots of those who receive, and whether the step is done.
+// A step that is not refused, worked out before anything is stored: what the station decides, and the slots of those who receive.
 #[derive(Clone, Copy)]
 pub struct Plan {
     pub decision: Decision,
     pub first: usize,
     pub second: usize,
-    pub verdict: Result<(), Refusal>,
 }

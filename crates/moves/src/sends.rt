@@ -6,7 +6,7 @@ ghost use Rattle.index.specs.Index.{slot_in, numbers_in};
 ghost use Rattle.moves.specs.Sends.{receiver_of, room_for, verdict_of, Plans, BagAfter, PutIn};
 
 use crate::Plan;
-use bag::{Bag, Taken};
+use bag::Bag;
 use index::lookup_near;
 use line::{Action, Leave, Message, Refusal, Station};
 use rules::{Decision, Sending, decide};
@@ -39,27 +39,20 @@ fn room_for(sending: Option<Sending>, count: usize) -> bool
     }
 }
 
-// Whether a step is done: the refusal of the station itself, 12 to 14, and then that of a full bag, of the counts of the receivers' bags.
+// Whether the receivers' bags, of these counts, can take what is sent to them.
 fn verdict_of(decision: Decision, first: usize, second: usize) -> Result<(), Refusal>
     ensures { result ≡ verdict_of decision first second }
 {
-    let verdict = decision.verdict;
     let sendings = decision.sendings;
-    let one = sendings.first;
-    let two = sendings.second;
-    match verdict {
-        Err(why) => Err(why),
-        Ok(()) => {
-            if room_for(one, first) & room_for(two, second) {
-                Ok(())
-            } else {
-                Err(Refusal::Full)
-            }
-        }
+    if room_for(sendings.first, first) && room_for(sendings.second, second) {
+        Ok(())
+    } else {
+        Err(Refusal::Full)
     }
 }
 
-// The step of the station at place i of the index. leave says whether it may leave, and found whether its bag holds the message to deliver.
+// The step of the station at place i of the index, or what refuses it: the station itself, 12 to 14, and then a bag that is full. leave says
+// whether it may leave, and found whether its bag holds the message to deliver.
 pub fn plan(
     index: &[u64],
     counts: &[usize; 64],
@@ -68,39 +61,32 @@ pub fn plan(
     found: bool,
     station: Station,
     action: Action,
-) -> Plan
+) -> Result<Plan, Refusal>
     requires { (i < length index.now) × Rising (numbers_in index.now) }
     ensures { Plans index.now counts.now i leave found station action result }
 {
-    let decision = decide(leave, found, station, action);
-    let sendings = decision.sendings;
-    let one = sendings.first;
-    let two = sendings.second;
-    let first = receiver(index, one, i);
-    let second = receiver(index, two, i);
-    let verdict = verdict_of(decision, counts[first], counts[second]);
-    Plan {
+    let decision = decide(leave, found, station, action)?;
+    let first = receiver(index, decision.sendings.first, i);
+    let second = receiver(index, decision.sendings.second, i);
+    verdict_of(decision, counts[first], counts[second])?;
+    Ok(Plan {
         decision,
         first,
         second,
-        verdict,
-    }
+    })
 }
 
-// The station's own bag after the step, and whether it held the message of a delivery.
-pub fn bag_after(action: Action, own: Bag) -> Taken
+// The station's own bag after the step, where the message of a delivery was taken out of it; nothing where the bag stays as it is.
+pub fn bag_after(action: Action, own: Bag) -> Option<Bag>
     ensures { BagAfter action own result }
 {
     match action {
-        Action::Timeout => Taken {
-            bag: own,
-            found: false,
-        },
-        Action::Deliver(message) => own.take(message),
-        Action::Exit => Taken {
-            bag: own,
-            found: false,
-        },
+        Action::Timeout => None,
+        Action::Deliver(message) => {
+            let taken = own.take(message);
+            taken.found.then_some(taken.bag)
+        }
+        Action::Exit => None,
     }
 }
 

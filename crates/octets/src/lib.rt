@@ -20,8 +20,7 @@ pub fn quad_at(b: &[u8], i: usize) -> u32
 }
 
 // "The 256 words of 16 bits, added with wrap at 65,536".
-pub fn check_sum(b: &[u8]) -> u16
-    requires { length b.now ≡ 512 }
+pub fn check_sum(b: &[u8; 512]) -> u16
     ensures { result ≡ sum_words b.now % 65536 }
 {
     let mut sum: u16 = 0;
@@ -31,8 +30,8 @@ pub fn check_sum(b: &[u8]) -> u16
     sum
 }
 
-// Whether all bytes from one index up to another are 0. There is no early return, so that the bytes are tested together, many at a
-// time.
+// Whether all bytes from one index up to another are 0, which they are where the first lies above the second: there is no such slice. There is no
+// early return, so that the bytes are tested together, many at a time.
 pub fn zero_between(b: &[u8], from: usize, to: usize) -> bool
     requires { to ≤ length b.now }
     ensures { result ≡ all_zero (part b.now from to) }

@@ -1,6 +1,6 @@
 // Whether every station of a table stays and no removal waits in a bag, read from the blocks where they lie (document 02, T-04): "no bag holds a
 // remove-left or remove-right, and no station is leaving. Introductions may still wait".
-ghost use Rattle.std.specs.Prelude.{◌≡◌, ◌&&◌, ◌≤◌, length};
+ghost use Rattle.std.specs.Prelude.{◌≡◌, ◌&&◌, ◌≤◌};
 ghost use Rattle.lists.specs.Lists.{all, any};
 ghost use Rattle.line.specs.Message.{is_removal};
 ghost use Rattle.line.specs.InLine.{is_quiet, stays};
@@ -27,8 +27,8 @@ fn is_removal(message: Message) -> bool
 }
 
 // Whether a counted place of a block holds a removal.
-fn holds_removal(b: &[u8]) -> bool
-    requires { (length b.now ≡ 512) × (word b.now 16 ≤ 32) }
+fn holds_removal(b: &[u8; 512]) -> bool
+    requires { word b.now 16 ≤ 32 }
     ensures { result ≡ any is_removal (messages b.now (word b.now 16)) }
 {
     any_message(b, is_removal)
@@ -36,8 +36,8 @@ fn holds_removal(b: &[u8]) -> bool
 
 // Whether the station of a block stays and its bag holds no removal.
 #[tactic(auto, unfolding(line::specs::InLine::is_quiet, block::specs::Layout::node_of))]
-fn is_settled(b: &[u8]) -> bool
-    requires { (length b.now ≡ 512) × (word b.now 16 ≤ 32) }
+fn is_settled(b: &[u8; 512]) -> bool
+    requires { word b.now 16 ≤ 32 }
     ensures { result ≡ (is_quiet (node_of b.now) && stays (node_of b.now)) }
 {
     !holds_removal(b) && !station_of(b).marks.leaving

@@ -1,12 +1,12 @@
 -- One law for each way through the code: what was tested and what was called give what the rules say. Each premise is one fact of the way,
 -- as the code has it, so that `search` finds it.
 use mathlib.Core.Path.{◌≡◌, refl, sym, ap, ap₂, ◌∙◌}
-use Rattle.std.specs.Prelude.{Some, None, Ok, Err, Option}
-use Rattle.line.specs.Types.{Leave, Neighbour}
+use Rattle.std.specs.Prelude.{Some, None, Ok, Err, Option, Result}
+use Rattle.std.specs.Result.{MatchResult}
+use Rattle.line.specs.Types.{Ending, Leave, Neighbour}
 use mathlib.Core.Bool.{Bool, true, false, cond, not}
 use mathlib.Core.List.{List, [], ◌++◌, append-nil}
 use Prim.Native.Nat.{ℕ, ◌≤◌, ◌<◌}
-use lib.Dec.{eqb}
 use borrow.Author.Tests.{eq-eqb, ne_eqb, lt-ltb, le-ltb, not-true, not-false}
 use Rattle.line.specs.declared.Content.{Content}
 use Rattle.line.specs.declared.Content.TheVariants.{Introduction, RemoveLeft, RemoveRight}
@@ -16,13 +16,12 @@ use Rattle.line.specs.declared.Side.{Side}
 use Rattle.line.specs.declared.Side.TheVariants.{Left, Right}
 use Rattle.line.specs.declared.Action.{Action}
 use Rattle.line.specs.declared.Action.TheVariants.{Timeout, Deliver, Exit}
-use Rattle.line.specs.declared.Reason.{Reason}
 use Rattle.line.specs.declared.Refusal.{Refusal}
 use Rattle.line.specs.declared.Refusal.TheVariants.{NotInBag, Staying, Held}
-use Rattle.line.specs.Answer.{refused, done, require, unless_held}
+use Rattle.line.specs.Answer.{Answer, refused, done, require, unless_held}
 use Rattle.line.specs.Message.{introduction, removal, holds, remove}
 use Rattle.line.specs.Node.{opposite, beyond, neighbour, with_neighbour}
-use Rattle.line.specs.Act.{Send, send_to, notice, timeout, Reaction, unchanged, drop_neighbour, obeys, removed, received, introduce_both, kept, act}
+use Rattle.line.specs.Act.{Send, send_to, notice, timeout, Reaction, Effect, unchanged, drop_neighbour, obeys, removed, received, introduce_both, kept, act}
 use Rattle.line.specs.Report.{process, Intro, less, mail, left_id, right_id, variable}
 use Rattle.line.proofs.Report.{intro_to}
 use Rattle.line.proofs.ReportLocal.{variable_station}
@@ -33,7 +32,7 @@ use Rattle.rules.specs.declared.Sending.{Sending}
 use Rattle.rules.specs.declared.Sendings.{Sendings}
 use Rattle.rules.specs.declared.Reacted.{Reacted}
 use Rattle.rules.specs.declared.Decision.{Decision}
-use Rattle.rules.specs.Decided.{sent, both_sent, reaction, is_found, rest, effect, decided, Decides}
+use Rattle.rules.specs.Decided.{sent, both_sent, reaction, is_found, Decides}
 
 -- The sides.
 module _ (d : Side) where
@@ -52,16 +51,6 @@ module _ (d : Side) where
   pub removal_right : d ≡ Right → record { content = RemoveRight } ≡ removal d
   unfolding removal
   removal_right e = rw e
-
--- A message to a neighbour that there is.
-module _ (n : Neighbour) (m : Message) where
-  pub sent_none : n ≡ None → sent None ≡ send_to n m
-  unfolding send_to
-  sent_none e = rw e
-
-  pub sent_one : (q : ℕ) → n ≡ Some q → sent (Some (record { to = q; message = m })) ≡ send_to n m
-  unfolding send_to
-  sent_one q e = rw e
 
 -- A timeout.
 module _ (p : declared.Station) (d : Side) (m : Message) where
@@ -92,22 +81,6 @@ module _ (id : ℕ) (n : Neighbour) (d : Side) where
   pub below_station : (q : ℕ) {b : Bool} → n ≡ Some q → b ≡ beyond d id q → b ≡ below d id (variable d n)
   unfolding below less beyond
   below_station q e f = rw (e, variable_station d q) (f ∙ on_each (λ d. beyond d id q ≡ below d id (process q)) refl refl d)
-
-  pub equal_none : n ≡ None → false ≡ equal id (variable d n)
-  unfolding equal left_id right_id
-  equal_none e = rw e (on_each (λ d. false ≡ equal id (variable d None)) refl refl d)
-
-  pub equal_station : (q : ℕ) → n ≡ Some q → eqb id q ≡ equal id (variable d n)
-  unfolding equal
-  equal_station q e = rw (e, variable_station d q)
-
-  pub nothing_introduced : n ≡ None → sent None ≡ mail (Intro (variable d n)) (process id)
-  unfolding mail left_id right_id
-  nothing_introduced e = rw e (on_each (λ d. sent None ≡ mail (Intro (variable d None)) (process id)) refl refl d)
-
-  pub one_introduced : (q : ℕ) (m : Message) → n ≡ Some q → m ≡ introduction q → sent (Some (record { to = id; message = m })) ≡ mail (Intro (variable d n)) (process id)
-  unfolding mail
-  one_introduced q m e f = rw (e, variable_station d q, f)
 
 -- An introduction of id, who lies on side d of p, where the neighbour is n: below, equal and above; t is p afterwards.
 module _ (d : Side) (p : declared.Station) (id : ℕ) (n : Neighbour) (b : Bool) (f : b ≡ below d id (variable d n)) where
@@ -191,41 +164,49 @@ module _ (a b : Neighbour) where
   unfolding introduce_both
   both_introduced l r m k e f g h = rw (e, f, g, h)
 
--- Refusals: d is what the call gave.
-module _ (l : Leave) (s : declared.Station) (b : List Message) (d : Decision) where
-  refuses : (r : Refusal) {a : Action} → (d.verdict ≡ Err r) × (d.gone ≡ false) → act l (record { station = s; bag = b }) a ≡ refused r → Decides l s b a d
-  refuses r {a} e g = record { says = ap (λ v. decided v (effect d (rest a b))) e.0 ∙ sym g; itself = λ h. clash h e.1 }
+-- Refusals.
+module _ (l : Leave) (s : declared.Station) (b : List Message) where
+  refuses : (r : Refusal) {a : Action} → act l (record { station = s; bag = b }) a ≡ refused r → Decides l s b a (Err r)
+  refuses r g = record { says = sym g; itself = tt }
 
-  pub not_in_bag : (m : Message) (found : Bool) → found ≡ false → (d.verdict ≡ Err NotInBag) × (d.gone ≡ false) → found ≡ holds m b → Decides l s b (Deliver m) d
+  pub not_in_bag : (m : Message) (found : Bool) → not found ≡ true → found ≡ holds m b → Decides l s b (Deliver m) (Err NotInBag)
   unfolding act require
-  not_in_bag m found i e h = refuses NotInBag e (rw (sym h ∙ i))
+  not_in_bag m found i h = refuses NotInBag (rw (sym h ∙ not-true found i))
 
-  pub exit_staying : not s.marks.leaving ≡ true → (d.verdict ≡ Err Staying) × (d.gone ≡ false) → Decides l s b Exit d
+  pub exit_staying : not s.marks.leaving ≡ true → Decides l s b Exit (Err Staying)
   unfolding act require
-  exit_staying h e =
-      refuses Staying e
+  exit_staying h =
+      refuses Staying
       (ap (λ t. require t Staying (unless_held l (done (record { after = None; sends = introduce_both s.left s.right })))) (not-true s.marks.leaving h))
 
-  pub exit_held : not s.marks.leaving ≡ false → (why : Reason) → l ≡ Err why → (d.verdict ≡ Err (Held why)) × (d.gone ≡ false) → Decides l s b Exit d
+  pub exit_held : not s.marks.leaving ≡ false → (r : Refusal) → MatchResult l (λ u. ◌≡◌ {A = Ending} (Err r) (Ok u)) (λ why. r ≡ Held why) → Decides l s b Exit (Err r)
   unfolding act require unless_held
-  exit_held h why i e = refuses (Held why) e (rw (not-false s.marks.leaving h, i))
+  exit_held h r i = refuses r (rw (not-false s.marks.leaving h) (held l i _))
+    where
+      held : (l : Leave) → MatchResult l (λ u. ◌≡◌ {A = Ending} (Err r) (Ok u)) (λ why. r ≡ Held why) → (a : Answer Effect) → unless_held l a ≡ refused r
+      held (Ok _) i a = cc
+      held (Err why) i a = ap refused (sym i)
 
 -- What is done.
 module _ (l : Leave) (s : declared.Station) (b : List Message) where
-  pub exits : (p : Sendings) → not s.marks.leaving ≡ false → l ≡ Ok tt → both_sent p ≡ introduce_both s.left s.right
-      → Decides l s b Exit (record { verdict = Ok tt; gone = true; station = s; sendings = p })
+  pub exits : (p : Sendings) → not s.marks.leaving ≡ false → (P : Unit {0} → Type 0) → MatchResult l P (λ why. ⊥) → both_sent p ≡ introduce_both s.left s.right
+      → Decides l s b Exit (Ok (record { gone = true; station = s; sendings = p }))
   unfolding act require unless_held
-  exits p h k e = record {
-    says = ap (λ (l : List Send). done (record { after = None; sends = l })) e ∙ sym (rw (not-false s.marks.leaving h, k));
+  exits p h P k e = record {
+    says = ap (λ (l : List Send). done (record { after = None; sends = l })) e ∙ sym (rw (not-false s.marks.leaving h, free l k));
     itself = λ z. refl;
   }
+    where
+      free : (l : Leave) → MatchResult l P (λ why. ⊥) → l ≡ Ok tt
+      free (Ok _) k = refl
+      free (Err why) k = absurd k
 
-  pub delivers : (m : Message) (found : Bool) (r : Reacted) → found ≡ true → reaction r ≡ received s m.content → found ≡ holds m b
-      → Decides l s b (Deliver m) (record { verdict = Ok tt; gone = false; station = r.station; sendings = record { first = r.sending; second = None } })
+  pub delivers : (m : Message) (found : Bool) (r : Reacted) → not found ≡ false → reaction r ≡ received s m.content → found ≡ holds m b
+      → Decides l s b (Deliver m) (Ok (record { gone = false; station = r.station; sendings = record { first = r.sending; second = None } }))
   unfolding act require
   delivers m found r f e h = record {
     says = ap (λ (u : Reaction). done (record { after = Some (record { station = u.station; bag = remove m b }); sends = u.sends })) (sends_one ∙ e)
-        ∙ sym (ap (λ (h : Bool). require h NotInBag (done (kept (remove m b) (received s m.content)))) (sym h ∙ f));
+        ∙ sym (ap (λ (h : Bool). require h NotInBag (done (kept (remove m b) (received s m.content)))) (sym h ∙ not-false found f));
     itself = λ z. clash z refl;
   }
     where
@@ -235,16 +216,16 @@ module _ (l : Leave) (s : declared.Station) (b : List Message) where
 
   -- by the action
   module _ (a : Action) where
-    pub timeout_decides : (p : Sendings) → a ≡ Timeout → both_sent p ≡ timeout s → Decides l s b a (record { verdict = Ok tt; gone = false; station = s; sendings = p })
+    pub timeout_decides : (p : Sendings) → a ≡ Timeout → both_sent p ≡ timeout s → Decides l s b a (Ok (record { gone = false; station = s; sendings = p }))
     unfolding act
     timeout_decides p i e = rw i (record {
       says = ap (λ (l : List Send). done (record { after = Some (record { station = s; bag = b }); sends = l })) e;
       itself = λ z. refl;
     })
 
-    pub delivery_decides : (m : Message) (found : Bool) (d : Decision) → a ≡ Deliver m
+    pub delivery_decides : (m : Message) (found : Bool) (d : Result Decision Refusal) → a ≡ Deliver m
         → ((l : Leave) (b : List Message) → found ≡ holds m b → Decides l s b (Deliver m) d) → found ≡ is_found a b → Decides l s b a d
     delivery_decides m found d i f h = rw i (f l b (h ∙ ap (λ (z : Action). is_found z b) i))
 
-    pub exit_decides : (d : Decision) → a ≡ Exit → ((b : List Message) → Decides l s b Exit d) → Decides l s b a d
+    pub exit_decides : (d : Result Decision Refusal) → a ≡ Exit → ((b : List Message) → Decides l s b Exit d) → Decides l s b a d
     exit_decides d i f = rw i (f b)

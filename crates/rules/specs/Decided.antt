@@ -1,10 +1,11 @@
 -- What the code's answers say in the terms of the step rules (document 01, "What a step does at station p").
-use Rattle.std.specs.Prelude.{◌≡◌, Bool, true, false, cond, List, [], ◌++◌, Some, None, Ok, Err, Option}
-use Rattle.line.specs.Types.{Ending, Leave}
+use Rattle.std.specs.Prelude.{◌≡◌, Bool, true, false, cond, List, [], ◌++◌, Some, None, Ok, Err, Option, Result, IfOk}
+use Rattle.line.specs.Types.{Leave}
 use Rattle.line.specs.declared.Station as declared
 use Rattle.line.specs.declared.Message.{Message}
 use Rattle.line.specs.declared.Action.{Action}
 use Rattle.line.specs.declared.Action.TheVariants.{Timeout, Deliver, Exit}
+use Rattle.line.specs.declared.Refusal.{Refusal}
 use Rattle.line.specs.Message.{holds, remove}
 use Rattle.line.specs.Answer.{Answer, refused, done}
 use Rattle.line.specs.Act.{Send, send, Reaction, Effect, act}
@@ -41,11 +42,11 @@ abbrev pub effect : Decision → List Message → Effect
 effect d b = record { after = cond d.gone None (Some (record { station = d.station; bag = b })); sends = both_sent d.sendings }
 
 -- the refusal, or the effect
-abbrev pub decided : Ending → Effect → Answer Effect
-decided (Ok _) e = done e
-decided (Err r) e = refused r
+abbrev pub decided : Result Decision Refusal → List Message → Answer Effect
+decided (Ok d) b = done (effect d b)
+decided (Err r) b = refused r
 
--- d is the decision of station s with the bag b; a station that goes is the one that it was
-pub record Decides (l : Leave) (s : declared.Station) (b : List Message) (a : Action) (d : Decision) : Type 0 where
-  pub says : decided d.verdict (effect d (rest a b)) ≡ act l (record { station = s; bag = b }) a
-  pub itself : d.gone ≡ true → d.station ≡ s
+-- r is the decision of station s with the bag b; a station that goes is the one that it was
+pub record Decides (l : Leave) (s : declared.Station) (b : List Message) (a : Action) (r : Result Decision Refusal) : Type 0 where
+  pub says : decided r (rest a b) ≡ act l (record { station = s; bag = b }) a
+  pub itself : IfOk r (λ d. d.gone ≡ true → d.station ≡ s)

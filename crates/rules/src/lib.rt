@@ -36,10 +36,9 @@ pub struct Reacted {
     pub sending: Option<Sending>,
 }
 
-// A station's part in a step: whether it is done as far as this station goes, its fields afterwards, whether its block goes, and what it sends.
+// A station's part in a step that it does not refuse: whether its block goes, its fields afterwards, and what it sends.
 #[derive(Clone, Copy)]
 pub struct Decision {
-    pub verdict: Result<(), Refusal>,
     pub gone: bool,
     pub station: Station,
     pub sendings: Sendings,
@@ -66,22 +65,9 @@ fn neighbour(side: Side, s: Station) -> Neighbour
 fn with_neighbour(side: Side, n: Neighbour, s: Station) -> Station
     ensures { result ≡ node.with_neighbour side n s }
 {
-    let left = s.left;
-    let right = s.right;
-    let marks = s.marks;
     match side {
-        Side::Left => Station {
-            number: s.number,
-            left: n,
-            right,
-            marks,
-        },
-        Side::Right => Station {
-            number: s.number,
-            left,
-            right: n,
-            marks,
-        },
+        Side::Left => Station { left: n, ..s },
+        Side::Right => Station { right: n, ..s },
     }
 }
 
@@ -107,20 +93,17 @@ fn removal(side: Side) -> Message
 }
 
 // "each where there is one"
+#[tactic(auto, unfolding(line::specs::Act::send_to))]
 fn send_to(n: Neighbour, m: Message) -> Option<Sending>
     ensures { sent result ≡ act.send_to n m }
 {
-    match n {
-        None => None,
-        Some(q) => Some(Sending { to: q, message: m }),
-    }
+    n.map(|to| Sending { to, message: m })
 }
 
 fn notice(p: Station, side: Side) -> Message
     ensures { result ≡ act.notice p side }
 {
-    let marks = p.marks;
-    if marks.leaving {
+    if p.marks.leaving {
         removal(opposite(side))
     } else {
         introduction(p.number)
@@ -130,11 +113,10 @@ fn notice(p: Station, side: Side) -> Message
 fn timeout(p: Station) -> Sendings
     ensures { both_sent result ≡ act.timeout p }
 {
-    let left = p.left;
-    let right = p.right;
-    let first = send_to(left, notice(p, Side::Left));
-    let second = send_to(right, notice(p, Side::Right));
-    Sendings { first, second }
+    Sendings {
+        first: send_to(p.left, notice(p, Side::Left)),
+        second: send_to(p.right, notice(p, Side::Right)),
+    }
 }
 
 fn unchanged(p: Station) -> Reacted
@@ -157,26 +139,22 @@ fn is_below(side: Side, id: u32, n: Neighbour) -> bool
 }
 
 // Whether id is the neighbour n, on either side.
+#[tactic(auto, unfolding(delivery::specs::Lemma3::equal, line::specs::Report::left_id, line::specs::Report::right_id))]
 fn is_equal(id: u32, n: Neighbour) -> bool
     ensures { (d : Side) → result ≡ lemma3.equal id (variable d n) }
 {
-    match n {
-        None => false,
-        Some(q) => id == q,
-    }
+    Some(id) == n
 }
 
 // An introduction of the neighbour n, where there is one, goes to id.
+#[tactic(auto, unfolding(line::specs::Report::mail, line::specs::Report::left_id, line::specs::Report::right_id))]
 fn introduce_to(id: u32, n: Neighbour) -> Option<Sending>
     ensures { (d : Side) → sent result ≡ mail (Intro (variable d n)) (process id) }
 {
-    match n {
-        None => None,
-        Some(q) => Some(Sending {
-            to: id,
-            message: introduction(q),
-        }),
-    }
+    n.map(|q| Sending {
+        to: id,
+        message: introduction(q),
+    })
 }
 
 // id lies on this side of p, where the neighbour is n. The words are those of the right; "the case of id < p is similar".
@@ -211,12 +189,10 @@ fn introduced(p: Station, id: u32) -> Reacted
     }
     // "We now consider p < id."
     if p.number < id {
-        let right = p.right;
-        return introduced_on(Side::Right, p, id, right);
+        return introduced_on(Side::Right, p, id, p.right);
     }
     // "The case of id < p is similar."
-    let left = p.left;
-    introduced_on(Side::Left, p, id, left)
+    introduced_on(Side::Left, p, id, p.left)
 }
 
 // The neighbour n on this side is dropped, with an introduction of p to it.
@@ -239,9 +215,8 @@ fn drop_neighbour(side: Side, p: Station, n: Neighbour) -> Reacted
 fn obeys(side: Side, p: Station) -> bool
     ensures { result ≡ act.obeys side p }
 {
-    let marks = p.marks;
     match side {
-        Side::Left => !marks.leaving,
+        Side::Left => !p.marks.leaving,
         Side::Right => true,
     }
 }
@@ -298,79 +273,49 @@ fn introduce_both(left: Neighbour, right: Neighbour) -> Sendings
     }
 }
 
-// A refused step: the station as it was, nothing sent.
-fn refuse(refusal: Refusal, s: Station) -> Decision
-    ensures { (result.verdict ≡ Err refusal) × (result.gone ≡ false) }
-{
-    Decision {
-        verdict: Err(refusal),
-        gone: false,
-        station: s,
-        sendings: nothing(),
-    }
-}
-
 // A delivery, where found says whether the bag holds the message.
-fn deliver(found: bool, s: Station, m: Message) -> Decision
+fn deliver(found: bool, s: Station, m: Message) -> Result<Decision, Refusal>
     ensures { (l : Leave) (b : List Message) → found ≡ message.holds m b → Decides l s b (Action.Deliver m) result }
 {
-    if found {
-        let content = m.content;
-        let after = received(s, content);
-        let station = after.station;
-        let sending = after.sending;
-        let sendings = Sendings {
-            first: sending,
-            second: None,
-        };
-        return Decision {
-            verdict: Ok(()),
-            gone: false,
-            station,
-            sendings,
-        };
+    if !found {
+        return Err(Refusal::NotInBag);
     }
-    refuse(Refusal::NotInBag, s)
+    let after = received(s, m.content);
+    Ok(Decision {
+        gone: false,
+        station: after.station,
+        sendings: Sendings {
+            first: after.sending,
+            second: None,
+        },
+    })
 }
 
-fn exit(leave: Leave, s: Station) -> Decision
+fn exit(leave: Leave, s: Station) -> Result<Decision, Refusal>
     ensures { (b : List Message) → Decides leave s b Action.Exit result }
 {
-    let marks = s.marks;
-    if !marks.leaving {
-        return refuse(Refusal::Staying, s);
+    if !s.marks.leaving {
+        return Err(Refusal::Staying);
     }
-    match leave {
-        Ok(()) => {
-            let left = s.left;
-            let right = s.right;
-            let sendings = introduce_both(left, right);
-            Decision {
-                verdict: Ok(()),
-                gone: true,
-                station: s,
-                sendings,
-            }
-        }
-        Err(why) => refuse(Refusal::Held(why), s),
-    }
+    leave.map_err(Refusal::Held)?;
+    Ok(Decision {
+        gone: true,
+        station: s,
+        sendings: introduce_both(s.left, s.right),
+    })
 }
 
-// A station's part in a step. leave says whether it may leave, and is looked at by an exit only; found says whether its bag holds the
-// message to deliver, and is looked at by a delivery only.
-pub fn decide(leave: Leave, found: bool, s: Station, action: Action) -> Decision
+// A station's part in a step, or why it refuses. leave says whether it may leave, and is looked at by an exit only; found says whether its bag
+// holds the message to deliver, and is looked at by a delivery only.
+pub fn decide(leave: Leave, found: bool, s: Station, action: Action) -> Result<Decision, Refusal>
     ensures { (b : List Message) → found ≡ is_found action b → Decides leave s b action result }
 {
     match action {
-        Action::Timeout => {
-            let sendings = timeout(s);
-            Decision {
-                verdict: Ok(()),
-                gone: false,
-                station: s,
-                sendings,
-            }
-        }
+        Action::Timeout => Ok(Decision {
+            gone: false,
+            station: s,
+            sendings: timeout(s),
+        }),
         Action::Deliver(m) => deliver(found, s, m),
         Action::Exit => exit(leave, s),
     }

@@ -67,7 +67,7 @@ pub fn run_accepted(table: &[u8], sorted: [u64; 64], steps: &[u8], room: &mut [u
             .find(|j| holds(&arrays, *j, station.number))
             .unwrap_or(asked);
         let leave = leave_from(&arrays.index[..arrays.n], count, j);
-        // What the station does, who receives, and whether the step is done.
+        // The station's own bag, where a message is taken out of it; what the station does and who receives, or what refuses the step.
         let taken = bag_after(
             action,
             Bag {
@@ -75,25 +75,25 @@ pub fn run_accepted(table: &[u8], sorted: [u64; 64], steps: &[u8], room: &mut [u
                 count,
             },
         );
-        let plan = plan(
+        let plan = match plan(
             &arrays.index[..arrays.n],
             &arrays.counts,
             i,
             leave,
-            taken.found,
+            taken.is_some(),
             station,
             action,
-        );
-        if let Err(why) = plan.verdict {
-            return finish(room, &arrays, k, Err(why));
-        }
+        ) {
+            Ok(plan) => plan,
+            Err(why) => return finish(room, &arrays, k, Err(why)),
+        };
         // The station is stored, its own bag where a message was taken out of it, then each message where one is sent.
         let decision = plan.decision;
         arrays.stations[own] = decision.station;
-        if taken.found {
-            let row = taken.bag.messages;
+        if let Some(bag) = taken {
+            let row = bag.messages;
             arrays.bags[own] = row;
-            arrays.counts[own] = taken.bag.count;
+            arrays.counts[own] = bag.count;
         }
         if let Some(sending) = decision.sendings.first {
             let a = plan.first;

@@ -1,15 +1,12 @@
 -- The blocks of a table one by one: block k is the bytes from 512 k on, and the blocks from k on are block k and those behind it.
 use mathlib.Core.Path.{◌≡◌, refl, sym, ap, ◌∙◌}
 use mathlib.Core.List.Memᴰ
-use mathlib.Core.List.{List, [], ◌∷◌, ◌++◌, Memᴰ as Member}
-use Prim.Native.Nat.{ℕ, suc, ◌+◌, ◌-◌, ◌*◌, ◌/◌, ◌≤◌, ◌<◌}
+use mathlib.Core.List.{List, [], ◌∷◌, ◌++◌, map, Memᴰ as Member}
+use Prim.Native.Nat.{ℕ, zero, suc, ◌+◌, ◌-◌, ◌*◌, ◌/◌, ◌≤◌, ◌<◌}
 use native.Mathlib.Omega.{arith}
 use lib.ListN.{length, get_or, take, drop, length-append, length-map, length-drop, drop_of_length-le, get_or-map}
-use lib.Seq.{length-take-le, take_at, drop-append-add, get_or-take, get_or-drop}
-use Rattle.std.specs.declared.slice.ChunksExact.{ChunksExact}
-use Rattle.std.specs.Slice.Iter.{chunks_exact_rest, chunks_exact_size, chunks_exact_steps}
-use Rattle.std.proofs.lemmas.Iterator.{YieldsList}
-use Rattle.std.proofs.lemmas.Iterator.Splits.{YieldsList-from_shown_while}
+use lib.Seq.{length-take-le, take_at, drop-append-add, drop-drop, get_or-take, get_or-drop}
+use Rattle.std.specs.Simd.{first_chunks}
 use Rattle.octets.specs.Bytes.{quad}
 use Rattle.lists.proofs.Elements.{drop_one, member_at, range_at, range_length, range_shifted}
 use Rattle.block.specs.Layout.{node_of}
@@ -41,15 +38,6 @@ module _ (t : List ℕ) (k : ℕ) (h : k < length t / 512) where
   pub block_length : length (block_at t k) ≡ 512
   unfolding block_at
   block_length = length-take-le 512 (drop (512 * k) t) (omega (arith, length-drop (512 * k) t))
-
--- a block by its place
-pub placed_block : (t b : List ℕ) (k : ℕ) → k < length (blocks t) → b ≡ get_or (blocks t) k b → (length b ≡ 512) × Member b (blocks t)
-placed_block t b k h e =
-    let w : k < length t / 512 = omega (arith, blocks_length t) in
-    let front = drop_one (blocks t) b k h in
-    let same = blocks_from t k w in
-    let is : b ≡ block_at t k = cc in
-    rw is (block_length t k w, block_member t k w)
 
 pub blocks_end : (t : List ℕ) (k : ℕ) → length t / 512 ≤ k → drop k (blocks t) ≡ []
 blocks_end t k h = drop_of_length-le (blocks t) {i = k} (omega (arith, blocks_length t))
@@ -94,15 +82,14 @@ module _ (b t : List ℕ) (h : length b ≡ 512) where
       let n : length (b ++ t) / 512 ≡ suc (length t / 512) = omega (arith, length-append b t) in
       rw (n, block_first, range_shifted (block_at (b ++ t)) (block_at t) block_next 0 (length t / 512))
 
--- The blocks as `chunks_exact` gives them.
-pub blocks_given : {s : ChunksExact ℕ} → chunks_exact_size s ≡ 512 → YieldsList chunks_exact_steps (λ x. x.now) s (blocks (chunks_exact_rest s))
-blocks_given {s} h =
-    YieldsList-from_shown_while
-    chunks_exact_steps
-    (λ x. x.now)
-    (λ s. blocks (chunks_exact_rest s))
-    (λ s. chunks_exact_size s ≡ 512)
-    (λ s t p w. omega (arith, blocks_length (chunks_exact_rest s), w.1.0))
-    (λ s x t p w. (w.0 ∙ p, ap blocks w.1.0 ∙ blocks_cons x.now (chunks_exact_rest t) (w.1.1 ∙ p)))
-    s
-    h
+-- The blocks as `as_chunks` gives them.
+chunks_shown : (t : List ℕ) (n : ℕ) → first_chunks 512 n t ≡ map (block_at t) (range 0 n)
+unfolding block_at range
+chunks_shown t zero = refl
+chunks_shown t (suc n) =
+    let behind = λ (k : ℕ). let e : 512 * suc k ≡ 512 + 512 * k = omega arith in ap (take 512) (ap (λ (m : ℕ). drop m t) e ∙ sym (drop-drop (512 * k) 512 t)) in
+    ap (λ (l : List (List ℕ)). take 512 t ∷ l) (chunks_shown (drop 512 t) n ∙ sym (range_shifted (block_at t) (block_at (drop 512 t)) behind 0 n))
+
+pub blocks_given : (t : List ℕ) → first_chunks 512 (length t / 512) t ≡ blocks t
+unfolding blocks
+blocks_given t = chunks_shown t (length t / 512)

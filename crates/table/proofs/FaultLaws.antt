@@ -3,14 +3,15 @@ use mathlib.Core.Path.{◌≡◌, refl, sym, ap, ◌∙◌}
 use mathlib.Core.Bool.{Bool, true, false, cond, ◌&&◌}
 use mathlib.Core.List.Memᴰ.{head as here}
 use mathlib.Core.List.Memᴰ.{tail as there}
-use mathlib.Core.List.{List, [], ◌∷◌, ◌++◌, map, Memᴰ as Member}
-use Prim.Native.Nat.{ℕ, suc, ◌/◌, ◌%◌, ◌≤◌, ◌<◌}
+use mathlib.Core.List.{List, [], ◌∷◌, map, Memᴰ as Member}
+use Prim.Native.Nat.{ℕ, suc, ◌+◌, ◌/◌, ◌%◌, ◌≤◌, ◌<◌}
 use native.Mathlib.Omega.{arith}
 use lib.Dec.{eqb, leb, ltb}
-use lib.ListN.{length}
+use lib.ListN.{length, get_or, drop, drop_of_length-le}
 use borrow.Author.Tests.{eqb-true, eqb-false, leb-true}
 use Rattle.std.proofs.lemmas.Bool.Decides.{nat_tests}
 use Rattle.lists.specs.Lists.{all}
+use Rattle.lists.proofs.Elements.{drop_one}
 use Rattle.lists.proofs.Lists.{and_both}
 use Rattle.line.specs.Node.{numbers}
 use Rattle.line.specs.Accepted.{has_sides, names_present}
@@ -20,7 +21,6 @@ use Rattle.block.specs.Layout as block
 use Rattle.table.specs.Blocks.{blocks, nodes}
 use Rattle.table.specs.Fault.{Test, first_failing, fault_of}
 use Rattle.table.specs.Smallest.{smaller, smallest, stations_fault}
-use Rattle.table.proofs.BlockLaws.{blocks_cons, blocks_end}
 
 -- the first of three tests that does not hold
 abbrev pick : Bool → Bool → Bool → ℕ
@@ -143,22 +143,18 @@ smaller_last : (a : ℕ) → smaller a 0 ≡ a
 unfolding smaller
 smaller_last a = grind (arith, nat_tests)
 
-pub record FaultTo (t : List ℕ) (fault : ℕ) (rest : List ℕ) : Type 0 where
-  pub is : smaller fault (smallest (blocks rest)) ≡ smallest (blocks t)
+pub record FaultTo (l : List (List ℕ)) (fault : ℕ) (rest : List (List ℕ)) : Type 0 where
+  pub is : smaller fault (smallest rest) ≡ smallest l
 
-pub fault_none : {t : List ℕ} → FaultTo t 0 t
+pub fault_none : {l : List (List ℕ)} → FaultTo l 0 l
 unfolding smaller
 fault_none = record { is = refl }
 
-module _ {t rest : List ℕ} {fault : ℕ} (so_far : FaultTo t fault rest) where
-  pub fault_next : (b left : List ℕ) → rest ≡ b ++ left → length b ≡ 512 → {f r : ℕ} → r ≡ smaller fault f → f ≡ block.fault_of b → FaultTo t r left
+module _ {l : List (List ℕ)} {i fault : ℕ} (so_far : FaultTo l fault (drop i l)) where
+  pub fault_next : i < length l → (d : List ℕ) {f r : ℕ} → r ≡ smaller fault f → f ≡ block.fault_of (get_or l i d) → FaultTo l r (drop (i + 1) l)
   unfolding smallest
-  fault_next b left e h p q = record {
-    is = rw (p, q, smaller_joins) (ap (λ (l : List (List ℕ)). smaller fault (smallest l)) (sym (ap blocks e ∙ blocks_cons b left h)) ∙ so_far.is);
-  }
+  fault_next h d p q = record { is = rw (p, q, smaller_joins) (rw (drop_one l d i h) at so_far.is) }
 
-  pub fault_last : length rest < 512 → fault ≡ smallest (blocks t)
+  pub fault_last : length l ≤ i → fault ≡ smallest l
   unfolding smallest
-  fault_last h =
-      let e : blocks rest ≡ [] = blocks_end rest 0 (omega arith) in
-      sym (smaller_last fault) ∙ (rw e at so_far.is)
+  fault_last h = sym (smaller_last fault) ∙ (rw (drop_of_length-le l h) at so_far.is)

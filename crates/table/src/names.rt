@@ -1,6 +1,6 @@
 // Whether the stations that a block names have a block (document 01, "The numbers a crew may see", 7). The index of all
 // blocks is handed in.
-ghost use Rattle.std.specs.Prelude.{◌≡◌, true, ◌<◌, length};
+ghost use Rattle.std.specs.Prelude.{◌≡◌, true, ◌<◌};
 ghost use Rattle.index.specs.Index.{numbers_in};
 ghost use Rattle.line.specs.declared.Message.{Message};
 ghost use Rattle.lists.specs.Lists.{all};
@@ -14,6 +14,7 @@ ghost use Rattle.table.specs.Blocks.{blocks, nodes};
 ghost use Rattle.table.specs.Smallest.{smallest};
 ghost use Rattle.table.specs.Index.{Lists};
 
+use crate::blocks;
 use block::stations::station_of;
 use index::is_listed;
 use line::Neighbour;
@@ -30,8 +31,8 @@ fn knows_neighbour(index: &[u64], neighbour: Neighbour) -> bool
 }
 
 // Message place i of a block that has no fault of its own: the station of an introduction.
-fn knows_place(b: &[u8], i: usize, index: &[u64]) -> bool
-    requires { (length b.now ≡ 512) × (i < 32) × (is_good (place_at b.now i) ≡ true) × Rising (numbers_in index.now) }
+fn knows_place(b: &[u8; 512], i: usize, index: &[u64]) -> bool
+    requires { (i < 32) × (is_good (place_at b.now i) ≡ true) × Rising (numbers_in index.now) }
     ensures { (line : Line) → Lists (numbers_in index.now) line → result ≡ knows_content line (message_of (place_at b.now i)).content }
 {
     if word_at(b, 20 + 8 * i) == 1 {
@@ -41,8 +42,8 @@ fn knows_place(b: &[u8], i: usize, index: &[u64]) -> bool
 }
 
 // The counted places.
-fn knows_messages(b: &[u8], index: &[u64]) -> bool
-    requires { (length b.now ≡ 512) × (fault_of b.now ≡ 0) × Rising (numbers_in index.now) }
+fn knows_messages(b: &[u8; 512], index: &[u64]) -> bool
+    requires { (fault_of b.now ≡ 0) × Rising (numbers_in index.now) }
     ensures { (line : Line) → Lists (numbers_in index.now) line → result ≡ all (λ (m : Message). knows_content line m.content) (messages b.now (word b.now 16)) }
 {
     let n = word_at(b, 16) as usize;
@@ -50,8 +51,8 @@ fn knows_messages(b: &[u8], index: &[u64]) -> bool
 }
 
 // One block: its left, its right and its introductions.
-fn knows_names(b: &[u8], index: &[u64]) -> bool
-    requires { (length b.now ≡ 512) × (fault_of b.now ≡ 0) × Rising (numbers_in index.now) }
+fn knows_names(b: &[u8; 512], index: &[u64]) -> bool
+    requires { (fault_of b.now ≡ 0) × Rising (numbers_in index.now) }
     ensures { (line : Line) → Lists (numbers_in index.now) line → result ≡ names_present line (node_of b.now) }
 {
     let station = station_of(b);
@@ -65,7 +66,5 @@ pub fn names_known(table: &[u8], index: &[u64]) -> bool
     requires { (smallest (blocks table.now) ≡ 0) × Lists (numbers_in index.now) (nodes table.now) × Rising (numbers_in index.now) }
     ensures { result ≡ all (names_present (nodes table.now)) (nodes table.now) }
 {
-    table
-        .chunks_exact(512)
-        .all(|block| knows_names(block, index))
+    blocks(table).iter().all(|block| knows_names(block, index))
 }

@@ -1,5 +1,5 @@
 // The line of one station (document 01, "The printed listing"; document 02, T-05): "Words are parted by one space and each line ends with LF."
-ghost use Rattle.std.specs.Prelude.{◌≡◌, ◌∷◌, [], map, ◌+◌, ◌≤◌, length};
+ghost use Rattle.std.specs.Prelude.{◌∷◌, [], map, ◌+◌, ◌≤◌, length};
 ghost use Rattle.octets.specs.Bytes.{word};
 ghost use Rattle.block.specs.Layout.{messages, node_of};
 ghost use Rattle.words.specs.Words.{neighbour_text, message_text, space, spaced, parted};
@@ -45,8 +45,8 @@ fn put_further(out: &mut [u8], at: usize, m: Message) -> usize
 }
 
 // The messages of a block, in its order: up to 12 bytes for each of 32.
-fn put_messages(out: &mut [u8], at: usize, b: &[u8]) -> usize
-    requires { (length b.now ≡ 512) × (word b.now 16 ≤ 32) × (at + 384 ≤ length out.old) }
+fn put_messages(out: &mut [u8], at: usize, b: &[u8; 512]) -> usize
+    requires { (word b.now 16 ≤ 32) × (at + 384 ≤ length out.old) }
     ensures { Wrote out.old at (spaced (map message_text (messages b.now (word b.now 16)))) result out.new × (result ≤ at + 384) }
 {
     let n = word_at(b, 16) as usize;
@@ -69,8 +69,8 @@ fn put_site(out: &mut [u8], at: usize, site: u16) -> usize
 }
 
 // The line of the station in a block: up to 38 bytes for the station, 384 for its messages, 12 for its site code and the line feed.
-pub(crate) fn put_line(out: &mut [u8], at: usize, b: &[u8]) -> usize
-    requires { (length b.now ≡ 512) × (word b.now 16 ≤ 32) × (at + 435 ≤ length out.old) }
+pub(crate) fn put_line(out: &mut [u8], at: usize, b: &[u8; 512]) -> usize
+    requires { (word b.now 16 ≤ 32) × (at + 435 ≤ length out.old) }
     ensures { Wrote out.old at (station_text (node_of b.now)) result out.new × (result ≤ at + 435) }
 {
     let station = station_of(b);

@@ -32,8 +32,7 @@ fn write_place(room: &mut [u8], at: usize, m: Message)
 }
 
 // The places of a bag, in its order.
-fn write_places(room: &mut [u8], bag: Bag)
-    requires { length room.old ≡ 512 }
+fn write_places(room: &mut [u8; 512], bag: Bag)
     ensures { room.new ≡ overwrite 20 (places_bytes (held bag)) room.old }
 {
     let n = bag.size();
@@ -44,7 +43,7 @@ fn write_places(room: &mut [u8], bag: Bag)
 
 // Bytes 0 to 19 of their values.
 fn write_fields(
-    room: &mut [u8],
+    room: &mut [u8; 512],
     flags: u16,
     number: u32,
     left: u32,
@@ -52,7 +51,6 @@ fn write_fields(
     count: u16,
     site: u16,
 )
-    requires { length room.old ≡ 512 }
     ensures { room.new ≡ overwrite 0 (le16 1 ++ (le16 flags ++ (le32 number ++ (le32 left ++ (le32 right ++ (le16 count ++ le16 site)))))) room.old }
 {
     write_word(room, 0, 1);
@@ -65,8 +63,7 @@ fn write_fields(
 }
 
 // Bytes 0 to 19 of a station and its bag.
-fn write_header(room: &mut [u8], station: Station, bag: Bag)
-    requires { length room.old ≡ 512 }
+fn write_header(room: &mut [u8; 512], station: Station, bag: Bag)
     ensures { room.new ≡ overwrite 0 (header (record { station = station; bag = held bag })) room.old }
 {
     let left = station.left;
@@ -85,8 +82,7 @@ fn write_header(room: &mut [u8], station: Station, bag: Bag)
 }
 
 // The check word makes the sum of the words 65,535; until then its two bytes are 0.
-fn seal(room: &mut [u8])
-    requires { length room.old ≡ 512 }
+fn seal(room: &mut [u8; 512])
     ensures { room.new ≡ overwrite 510 (le16 (65535 - sum_words room.old % 65536)) room.old }
 {
     let sum = check_sum(room);
@@ -94,8 +90,7 @@ fn seal(room: &mut [u8])
 }
 
 // The block of a station and its bag, whatever the room held.
-pub fn write_block(room: &mut [u8], station: Station, bag: Bag)
-    requires { length room.old ≡ 512 }
+pub fn write_block(room: &mut [u8; 512], station: Station, bag: Bag)
     ensures { room.new ≡ encode (record { station = station; bag = held bag }) }
 {
     clear(room);

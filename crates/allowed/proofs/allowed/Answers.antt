@@ -1,4 +1,4 @@
-use Rattle.table.proofs.Lines.{inspected_clean, inspected_index, inspected_size, inspected_long}
+use Rattle.table.proofs.Lines.{inspected_size, inspected_long}
 use Rattle.allowed.proofs.Listing.{allowed_refused, allowed_filled}
 use Rattle.allowed.proofs.allowed.Goals as goal
 

@@ -16,7 +16,7 @@ pub add_block-requires : goal.add_block-requires
 add_block-requires c =
     let kept = c.loop-k.invariant.kept in
     record {
-      b_len = (c.block_at.ensures.1, clean_count _ c.requires.table_value.0 _ (omega arith) c.block_at.ensures.0);
+      b_len = clean_count _ c.requires.table_value.0 _ (omega arith) c.block_at.ensures;
       ready = record {
         rising = rw kept.index (numbers_rise _ _ c.requires.table_value.0 c.requires.table_value.1);
         alike = kept.alike;
@@ -28,6 +28,6 @@ pub loop-k-preserved : goal.loop-k-preserved
 loop-k-preserved c =
     let kept = c.loop-k.invariant.kept in
     record {
-      counted = counted_next c.loop-k.invariant.counted (omega arith) c.block_at.ensures.0 (rw kept.index at c.add_block.ensures.added);
+      counted = counted_next c.loop-k.invariant.counted (omega arith) c.block_at.ensures (rw kept.index at c.add_block.ensures.added);
       kept = keeps_more kept c.add_block.ensures.kept;
     }

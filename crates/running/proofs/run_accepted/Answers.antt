@@ -1,5 +1,5 @@
 use borrow.Author.Rules.{rules}
-use Rattle.std.specs.Prelude.{Ok}
+use Rattle.std.specs.Prelude.{Ok, Result}
 use borrow.Author.Tests.{tests}
 use native.Mathlib.Omega.{arith}
 use mathlib.Core.Path.{◌≡◌, sym, ◌∙◌}
@@ -7,6 +7,7 @@ use mathlib.Core.Bool.{true, false}
 use Prim.Native.Nat.{◌+◌, ◌≤◌, ◌/◌}
 use lib.ListN.{length}
 use Rattle.std.proofs.lemmas.Iterator.{first_from_Range}
+use Rattle.line.specs.declared.Refusal.{Refusal}
 use Rattle.line.specs.Answer.{done}
 use Rattle.line.specs.Node.{number}
 use Rattle.line.specs.Step.{step}
@@ -14,6 +15,7 @@ use Rattle.bag.proofs.Laws.{length_mapped}
 use Rattle.arrays.specs.declared.Arrays.{Arrays}
 use Rattle.arrays.specs.Arrays.{node_at, line_in}
 use Rattle.arrays.proofs.Lines.{slot_of}
+use Rattle.moves.specs.declared.Plan.{Plan}
 use Rattle.effects.proofs.Judging.{refuses}
 use Rattle.effects.proofs.Effects.{Planned, first_room, leaves, second_room, stays, planned_by, entries_stay}
 use Rattle.effects.proofs.Stores.{Arrived, arrived_one, arrived_none, BetweenSteps, OwnStored, with_station, own_taken, own_untaken}
@@ -21,12 +23,12 @@ use Rattle.effects.proofs.Underway.{Underway, underway_start, underway_absent, u
 use Rattle.effects.proofs.Asked.{holds, walked, holder_fits}
 use Rattle.running.proofs.Ending.{ends_as}
 use Rattle.running.proofs.run_accepted.Goals as goal
-use Rattle.running.proofs.run_accepted.Goals.{After-plan-plan, Joined-taken, Joined-decision, Joined-decision-2}
-use Rattle.running.proofs.run_accepted.Goals.{then-taken, else-taken, in-Some, in_default-first, in-Some-second, in_default-second, then-decision, else-decision}
+use Rattle.running.proofs.run_accepted.Goals.{After-plan, Joined-taken, Joined-decision, Joined-decision-2}
+use Rattle.running.proofs.run_accepted.Goals.{in-Some, in_default, in-Some-first, in_default-first, in-Some-second, in_default-second, then-decision, else-decision}
 
 -- everything that is read and worked out before the first store
-worked : (c : After-plan-plan) → Planned c.loop-k.arrays c.in-Ok.step c.lookup-i.result c.bag_after-taken.result c.plan-plan.result
-worked c =
+worked : (c : After-plan) {r : Result Plan Refusal} → c.plan.result ≡ r → Planned c.loop-k.arrays c.in-Ok.step c.lookup-i.result c.bag_after-taken.result r
+worked c e =
     let a = c.loop-k.arrays in
     let p = number (node_at a (slot_of a c.lookup-i.result)) in
     let step = c.in-Ok.step in
@@ -35,26 +37,26 @@ worked c =
     (first_from_Range _ _ _ _ (λ j. holds a p j ≡ true) (λ j. holds a p j ≡ false) c.find.ensures.ran (λ j q k. search (rules, tests)) (λ j q k. search (rules, tests)))
     c.unwrap_or-j.ensures in
     planned_by step c.lookup-i.result between c.if-arrays-i.false c.lookup-i.ensures c.asked_of-asked.ensures came.0 came.1
-    c.leave_from-leave.ensures c.bag_after-taken.ensures c.plan-plan.ensures
+    c.leave_from-leave.ensures c.bag_after-taken.ensures (rw (c.is_some.ensures, e) at c.plan.ensures)
 
 -- the arrays after the station's own store, and what each message that is sent makes of them
 own_stored : (c : Joined-taken)
-    → OwnStored c.bag_after-taken.result.found (slot_of c.loop-k.arrays c.lookup-i.result) c.bag_after-taken.result.bag
-    (with_station c.loop-k.arrays (slot_of c.loop-k.arrays c.lookup-i.result) c.plan-plan.result.decision.station) c.if-taken.arrays
+    → OwnStored c.bag_after-taken.result (slot_of c.loop-k.arrays c.lookup-i.result)
+    (with_station c.loop-k.arrays (slot_of c.loop-k.arrays c.lookup-i.result) c.in-Ok-plan.plan.decision.station) c.match-taken.arrays
 own_stored c =
-    elim c.if-taken.branch [
-      | then-taken w ↦ own_taken _ c.bag_after-taken.result.bag _ w.if-taken.true w.arrays-is
-      | else-taken w ↦ own_untaken _ c.bag_after-taken.result.bag _ w.if-taken.false w.arrays-is
+    elim c.match-taken.branch [
+      | in-Some w ↦ own_taken _ _ _ w.in-Some.is w.arrays-is
+      | in_default w ↦ own_untaken _ _ w.in_default.is w.arrays-is
     ]
 
-first : (c : Joined-decision) → Arrived c.plan-plan.result.decision.sendings.first c.plan-plan.result.first c.if-taken.arrays c.match-decision.arrays
+first : (c : Joined-decision) → Arrived c.in-Ok-plan.plan.decision.sendings.first c.in-Ok-plan.plan.first c.match-taken.arrays c.match-decision.arrays
 first c =
     elim c.match-decision.branch [
-      | in-Some w ↦ arrived_one _ _ c.if-taken.arrays _ w.in-Some.is w.put_in-row.ensures w.arrays-is
-      | in_default-first w ↦ arrived_none _ _ c.if-taken.arrays w.in_default-first.is w.arrays-is
+      | in-Some-first w ↦ arrived_one _ _ c.match-taken.arrays _ w.in-Some-first.is w.put_in-row.ensures w.arrays-is
+      | in_default-first w ↦ arrived_none _ _ c.match-taken.arrays w.in_default-first.is w.arrays-is
     ]
 
-second : (c : Joined-decision-2) → Arrived c.plan-plan.result.decision.sendings.second c.plan-plan.result.second c.match-decision.arrays c.match-decision-2.arrays
+second : (c : Joined-decision-2) → Arrived c.in-Ok-plan.plan.decision.sendings.second c.in-Ok-plan.plan.second c.match-decision.arrays c.match-decision-2.arrays
 second c =
     elim c.match-decision-2.branch [
       | in-Some-second w ↦ arrived_one _ _ c.match-decision.arrays _ w.in-Some-second.is w.put_in-row-in-Some-second.ensures w.arrays-is
@@ -81,37 +83,36 @@ returns-then-arrays-i c =
 pub leave_from-leave-requires : goal.leave_from-leave-requires
 leave_from-leave-requires c = holder_fits c.loop-k.invariant.between _
 
-pub returns-in-Err-verdict : goal.returns-in-Err-verdict
-returns-in-Err-verdict c =
-    let p = (goal.at.returns-in-Err-verdict c).After-plan-plan in
-    ends_as c.loop-k.invariant c.finish-in-Err-verdict.ensures
-    (underway_refused c.loop-k.invariant c.loop-k-test.true c.in-Ok.step c.read_step.ensures c.in-Ok.is (refuses (worked p).judged c.in-Err-verdict.is))
+pub returns-in-Err-plan : goal.returns-in-Err-plan
+returns-in-Err-plan c =
+    let p = (goal.at.returns-in-Err-plan c).After-plan in
+    ends_as c.loop-k.invariant c.finish-in-Err-plan.ensures
+    (underway_refused c.loop-k.invariant c.loop-k-test.true c.in-Ok.step c.read_step.ensures c.in-Ok.is (refuses (worked p c.in-Err-plan.is).judged))
 
 pub put_in-row-requires : goal.put_in-row-requires
 put_in-row-requires c =
     let at = goal.at.put_in-row-requires c in
-    first_room (worked at.After-plan-plan) c.in_default.is _ (own_stored at.Joined-taken) _ c.in-Some.is
+    first_room (worked at.After-plan c.in-Ok-plan.is) _ (own_stored at.Joined-taken) _ c.in-Some-first.is
 
 pub put_in-row-requires-in-Some-second : goal.put_in-row-requires-in-Some-second
 put_in-row-requires-in-Some-second c =
     let at = goal.at.put_in-row-requires-in-Some-second c in
-    second_room (worked at.After-plan-plan) c.in_default.is _ (own_stored at.Joined-taken) _ (first at.Joined-decision) _ c.in-Some-second.is
+    second_room (worked at.After-plan c.in-Ok-plan.is) _ (own_stored at.Joined-taken) _ (first at.Joined-decision) _ c.in-Some-second.is
 
 pub loop-k-preserved : goal.loop-k-preserved
 loop-k-preserved c =
     let at = goal.at.loop-k-preserved c in
-    let plan = worked at.After-plan-plan in
-    let goes = c.in_default.is in
+    let plan = worked at.After-plan c.in-Ok-plan.is in
     let own = own_stored at.Joined-taken in
     let one = first at.Joined-decision in
     let two = second at.Joined-decision-2 in
-    let same = entries_stay plan goes _ own _ one _ two in
+    let same = entries_stay plan _ own _ one _ two in
     elim c.if-decision.branch [
       | then-decision w ↦ rw w.arrays-is (
           going at.Joined-decision-2 (omega arith)
-          (leaves plan goes _ own _ one _ two w.if-decision.true (record { size = search (rules, length_mapped); is = w.drop_entry-index.ensures }))
+          (leaves plan _ own _ one _ two w.if-decision.true (record { size = search (rules, length_mapped); is = w.drop_entry-index.ensures }))
           )
-      | else-decision w ↦ rw w.arrays-is (going at.Joined-decision-2 (omega arith) (stays plan goes _ own _ one _ two w.if-decision.false))
+      | else-decision w ↦ rw w.arrays-is (going at.Joined-decision-2 (omega arith) (stays plan _ own _ one _ two w.if-decision.false))
     ]
 
 pub returns : goal.returns

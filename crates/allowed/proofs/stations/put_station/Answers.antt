@@ -1,4 +1,3 @@
-use borrow.Author.Rules.{rules}
 use mathlib.Core.Path.{refl, ◌∙◌}
 use Rattle.line.specs.declared.Side.TheVariants.{Left, Right}
 use Rattle.allowed.proofs.Holding.{removal_held}
@@ -13,21 +12,21 @@ pub block_at-b-requires : goal.block_at-b-requires
 block_at-b-requires c = search standing_slot
 
 pub numbers_of-numbers-requires : goal.numbers_of-numbers-requires
-numbers_of-numbers-requires c = (search rules, search standing_clean)
+numbers_of-numbers-requires c = search standing_clean
 
 pub choose-chosen-requires : goal.choose-chosen-requires
 choose-chosen-requires c = (search index_few, search index_small)
 
 pub has_kind-left-requires : goal.has_kind-left-requires
-has_kind-left-requires c = (search rules, search standing_clean)
+has_kind-left-requires c = search standing_clean
 
 pub has_kind-right-requires : goal.has_kind-right-requires
-has_kind-right-requires c = (search rules, search standing_clean)
+has_kind-right-requires c = search standing_clean
 
 pub loop-k-init : goal.loop-k-init
 loop-k-init c =
     let chosen = c.choose-chosen.ensures in
-    let block = c.block_at-b.ensures.0 in
+    let block = c.block_at-b.ensures in
     let pre = c.requires in
     let s = pre.0 in
     put_none s (standing_named s refl c.number_at-station.ensures)

@@ -1,4 +1,3 @@
-use borrow.Author.Rules.{rules}
 use Rattle.table.proofs.Lines.{slot_within, slot_count}
 use Rattle.leave.proofs.Holding.{block_passed, block_holds, no_block_holds}
 use Rattle.leave.proofs.holders.first_holder.Goals as goal
@@ -7,7 +6,7 @@ pub block_at-requires : goal.block_at-requires
 block_at-requires c = search slot_within
 
 pub is_holder-requires : goal.is_holder-requires
-is_holder-requires c = (search rules, search slot_count)
+is_holder-requires c = search slot_count
 
 pub returns-then-is_holder : goal.returns-then-is_holder
 returns-then-is_holder c = search block_holds

@@ -4,7 +4,7 @@ use Rattle.mentions.proofs.Tally.add_messages.Goals as goal
 
 pub loop-i-init : goal.loop-i-init
 loop-i-init c = record {
-  added = added_none _ _ c.word_at-n.ensures c.requires.b_len.1;
+  added = added_none _ _ c.word_at-n.ensures c.requires.b_len;
   kept = keeps_itself _ c.requires.ready.alike;
 }
 

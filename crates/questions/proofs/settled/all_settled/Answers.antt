@@ -1,4 +1,3 @@
-use borrow.Author.Rules.{rules}
 use Rattle.table.proofs.Lines.{slot_within, slot_count}
 use Rattle.questions.proofs.Staying.{settled_none, settled_next, settled_not, settled_all}
 use Rattle.questions.proofs.settled.all_settled.Goals as goal
@@ -10,7 +9,7 @@ pub block_at-requires : goal.block_at-requires
 block_at-requires c = search slot_within
 
 pub is_settled-requires : goal.is_settled-requires
-is_settled-requires c = (search rules, search slot_count)
+is_settled-requires c = search slot_count
 
 pub loop-entry-preserved : goal.loop-entry-preserved
 loop-entry-preserved c = search settled_next

@@ -13,7 +13,7 @@ use Rattle.table.proofs.names.knows_messages.Goals as goal
 
 pub all-requires-clause-callable : goal.all-requires-clause-callable
 all-requires-clause-callable c =
-    serves_from_Range (λ i q k. search (rules, tests)) (λ i low high. let counted = place_counted c.args.b.now c.requires.1 c.word_at-n.ensures high in search (rules, counted))
+    serves_from_Range (λ i q k. search (rules, tests)) (λ i low high. let counted = place_counted c.args.b.now c.requires.0 c.word_at-n.ensures high in search (rules, counted))
 
 pub returns : goal.returns
 returns c =
