@@ -13,9 +13,18 @@ pub fn fill(room: &mut [u8]) {
     room.fill(165);
 }
 
-// Whether every byte is 165.
+// Whether every byte of a part is 165. There is no early return, so that the bytes are tested together, many at a time.
+fn part_is_kept(part: &[u8]) -> bool {
+    let mut kept = true;
+    for byte in part {
+        kept &= *byte == 165;
+    }
+    kept
+}
+
+// Whether every byte is 165; the first part that is not ends it.
 fn is_kept(rest: &[u8]) -> bool {
-    rest.iter().all(|byte| *byte == 165)
+    rest.chunks(256).all(part_is_kept)
 }
 
 // Reads until the room is full or the file ends, and returns how many bytes were put at the front of the room. No index is counted here: each

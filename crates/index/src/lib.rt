@@ -76,12 +76,14 @@ pub fn is_listed(index: &[u64], q: u32) -> bool
     lookup(index, q) < index.len()
 }
 
-// Without entry i of the first n: what stood after it goes one place down.
+// Without entry i of the first n: what stood after it goes one place down. The library's `rotate_left` needs `memmove` of whoever links the archive.
 pub fn drop_entry(mut index: [u64; 64], n: usize, i: usize) -> [u64; 64]
     requires { (i < n) × (n ≤ 64) }
     ensures { take (n - 1) result ≡ remove_at i (take n index) }
 {
-    index[i..n].rotate_left(1);
+    for j in i..n - 1 {
+        index[j] = index[j + 1];
+    }
     index
 }
 

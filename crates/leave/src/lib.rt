@@ -22,6 +22,9 @@ use moves::holders::leave_from;
 use octets::word_at;
 use table::{block_at, inspect, number_at};
 
+// What the question answers in numbers: that of a refusal, any number that a caller has, or at 0 whether the station may leave, and what holds it.
+pub type LeaveTold = Result<Leave, u32>;
+
 // Of an accepted table and its index: whether the station at place i may leave. "The bag is looked at first"; then who holds it is sought by
 // rising station number.
 pub fn leave_at(table: &[u8], index: &[u64], i: usize) -> Leave

@@ -1,9 +1,8 @@
 // The answer of the leave question as a record of numbers: so it is handed over in C, alone or in a list (document 02, T-02 and T-03).
 ghost use Rattle.std.specs.Prelude.{◌≡◌};
-ghost use Rattle.line.specs.Answer.{refused_number, numbered};
 ghost use Rattle.leave.specs.Leave.{leave_as};
 
-use line::{Leave, Refused};
+use crate::LeaveTold;
 
 // The number of the leave question, and at 0 whether the station may leave: 1 yes, 2 its own bag, 3 the station `holder`; beside any other
 // number both are 0.
@@ -17,12 +16,12 @@ pub struct LeaveRecord {
 
 // The number, the reason and the holder of an answer.
 #[tactic(auto, unfolding(crate::specs::Leave::leave_as))]
-pub fn leave_as(told: Result<Leave, Refused>) -> LeaveRecord
-    ensures { result ≡ leave_as (numbered refused_number told) }
+pub fn leave_as(told: LeaveTold) -> LeaveRecord
+    ensures { result ≡ leave_as told }
 {
     match told {
-        Err(refused) => LeaveRecord {
-            answer: refused.number(),
+        Err(number) => LeaveRecord {
+            answer: number,
             reason: 0,
             holder: 0,
         },

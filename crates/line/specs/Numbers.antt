@@ -1,5 +1,5 @@
--- The numbers a crew may see (document 01, "The numbers a crew may see"; document 02, T-03), each once with its name; `numbers` of src/ has the
--- same for the code. 0 says that none applies.
+-- The numbers a crew may see (document 01, "The numbers a crew may see"; document 02, T-03), each once with its name; `Fault::number` and
+-- `Refusal::number` say the same for the code. 0 says that none applies.
 use Rattle.std.specs.Prelude.{ℕ}
 
 -- of a table: its length, the number of its blocks, a check, a field, a side, two blocks of one station, a station named without a block

@@ -117,6 +117,9 @@ pub enum Refused {
 // How a run over an accepted table ends: all steps done, or stopped at the first refused one.
 pub type Ending = Result<(), Refusal>;
 
+// What a run answers: the number of what is refused before the first step, any number that a caller has, or how it ended.
+pub type Answered = Result<Ending, u32>;
+
 impl Reason {
     // The value of the C interface: 2 for the own bag, 3 for a holder.
     pub fn number(self) -> u32
@@ -248,22 +251,34 @@ pub fn checked_number(checked: Result<(), Fault>) -> u32
     }
 }
 
-// The number a crew sees of what a run answers: 0 for a run with no refused step.
-pub fn answer_number(answer: Result<(), Refused>) -> u32
-    ensures { result ≡ answer_number (told answer) }
+// What a run answers, with what is refused before the first step by its number.
+pub fn told(answer: Result<(), Refused>) -> Answered
+    ensures { result ≡ told answer }
 {
     match answer {
-        Ok(()) => 0,
-        Err(refused) => refused.number(),
+        Ok(()) => Ok(Ok(())),
+        Err(Refused::Before(fault)) => Err(fault.number()),
+        Err(Refused::Step(refusal)) => Ok(Err(refusal)),
+    }
+}
+
+// The number a crew sees of what a run answers: 0 for a run with no refused step.
+pub fn answer_number(answer: Answered) -> u32
+    ensures { result ≡ answer_number answer }
+{
+    match answer {
+        Ok(Ok(())) => 0,
+        Ok(Err(refusal)) => refusal.number(),
+        Err(number) => number,
     }
 }
 
 // The reason of a run that stopped at 14.
-pub fn answer_reason(answer: Result<(), Refused>) -> Option<Reason>
-    ensures { result ≡ answer_reason (told answer) }
+pub fn answer_reason(answer: Answered) -> Option<Reason>
+    ensures { result ≡ answer_reason answer }
 {
     match answer {
-        Err(Refused::Step(refusal)) => refusal.reason(),
+        Ok(Err(refusal)) => refusal.reason(),
         _ => None,
     }
 }

@@ -7,6 +7,7 @@ pub mod Firsts
 pub mod Placing
 pub mod Sorting
 pub mod Filling
+pub mod Shifts
 pub mod Dropping
 pub mod Numbers
 pub mod Distinct

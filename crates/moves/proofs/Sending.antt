@@ -120,7 +120,7 @@ refusal_means index counts i (Ok d) e h = inr (go _ refl h)
     go false f h = record { decision = d; decides = refl; rooms = f; full = cc }
 
 -- what a step leaves of the station's own bag
-after_none : (a : Action) (own : Bag) → is_found a (ordered own) ≡ false → rest a (ordered own) ≡ ordered own → BagAfter a own None
+pub after_none : (a : Action) (own : Bag) → is_found a (ordered own) ≡ false → rest a (ordered own) ≡ ordered own → BagAfter a own None
 after_none a own e f = record { found_is = sym e; ordered_is = sym f; counted = λ h. h }
 
 pub after_timeout : (a : Action) (own : Bag) → a ≡ Timeout → BagAfter a own None

@@ -12,7 +12,7 @@ ghost use Rattle.printing.specs.Program.{files_hold, program_room, program_text}
 
 use engine::run;
 use files::read_file;
-use line::{Fault, Refused};
+use line::{Fault, told};
 use std::io;
 use std::rt::Files;
 use text::write_listing;
@@ -38,7 +38,7 @@ fn list_run(table: &[u8], steps: &[u8], out: &mut [u8]) -> usize
     let mut room = [0u8; TABLE_LIMIT];
     let ran = run(table, steps, &mut room);
     let end = 512 * (ran.stations as usize);
-    let answer = ran.answer;
+    let answer = told(ran.answer);
     write_listing(out, answer, ran.done, ran.stations, &room[..end])
 }
 
@@ -57,7 +57,7 @@ pub fn list_files(
     if files_hold(table_read, table, steps_read, steps) {
         return list_run(table, steps, out);
     }
-    write_listing(out, Err(Refused::Before(Fault::BadFile)), 0, 0, table)
+    write_listing(out, Err(Fault::BadFile.number()), 0, 0, table)
 }
 
 // Reads the two files, each up to one byte over its limit, and prints their listing. A listing that cannot be written is an error; a file

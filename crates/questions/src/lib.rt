@@ -17,19 +17,22 @@ use line::{Fault, Neighbour, Station};
 use settled::all_settled;
 use table::{block_at, inspect, number_at};
 
+// What a question answers in numbers: that of a refusal, any number that a caller has, or at 0 yes or no.
+pub type Told = Result<bool, u32>;
+
 // The number a crew sees of a question's answer: 0 beside yes and no.
-pub fn told_number(told: Result<bool, Fault>) -> u32
-    ensures { result ≡ told_number (numbered fault_number told) }
+pub fn told_number(told: Told) -> u32
+    ensures { result ≡ told_number told }
 {
     match told {
         Ok(_) => 0,
-        Err(fault) => fault.number(),
+        Err(number) => number,
     }
 }
 
 // The value a crew sees: 1 for yes, 0 for no and beside a refusal.
-pub fn told_yes(told: Result<bool, Fault>) -> u32
-    ensures { result ≡ told_yes (numbered fault_number told) }
+pub fn told_yes(told: Told) -> u32
+    ensures { result ≡ told_yes told }
 {
     match told {
         Ok(true) => 1,

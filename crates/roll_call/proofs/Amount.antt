@@ -16,10 +16,10 @@ use Rattle.table.specs.Fault.{fault_of}
 use Rattle.leave.specs.declared.records.LeaveRecord.{LeaveRecord}
 use Rattle.leave.specs.Leave.{leave_as}
 use Rattle.filling.specs.declared.Filled.{Filled}
-use Rattle.filling.specs.Filled.{refused, filled_with, filled_as}
+use Rattle.filling.specs.Filled.{Filling, refused, filled_with, filled_as}
 use Rattle.rolls.specs.declared.Roll.{Roll}
 use Rattle.rolls.specs.Roll.{record_in}
-use Rattle.roll_call.specs.RollCall.{Tells, Rolls, gate_of, record_of, roll_call}
+use Rattle.roll_call.specs.RollCall.{Tells, Rolls, gate_of, record_of, called, roll_call}
 
 module _ (fault n m : ℕ) where
   pub amount_within : ((gate_of fault n m).filled ≤ n) × ((gate_of fault n m).filled ≤ m)
@@ -36,24 +36,34 @@ module _ (fault n m : ℕ) where
 abbrev filled_up_to : Roll → ℕ → List ℕ → List LeaveRecord → List LeaveRecord
 filled_up_to roll k qs rs = map (record_in roll) (take k qs) ++ drop (length (take k qs)) rs
 
+module _ (roll : Roll) (qs : List ℕ) (rs : List LeaveRecord) where
+  abbrev G : Filled
+  G = gate_of 0 (length qs) (length rs)
+
+  is_called : (b c : Bool) → leb (length qs) 64 ≡ b → leb (length qs) (length rs) ≡ c → filled_as G (filled_up_to roll G.filled qs rs) ≡ called (record_in roll) qs rs
+  unfolding gate_of called filled_with
+  is_called false c f g = rw f
+  is_called true false f g = rw (f, length-map, g)
+  is_called true true f g = rw (f, length-map, g, take-length)
+
+  -- the questions that the gate lets through, filled, are what is called
+  pub gate_called : {filled : Filled} {zs : List LeaveRecord} → filled ≡ G → zs ≡ filled_up_to roll filled.filled qs rs → filled_as filled zs ≡ called (record_in roll) qs rs
+  gate_called e f = rw (f, e) (is_called (leb (length qs) 64) (leb (length qs) (length rs)) refl refl)
+
 module _ {t : List ℕ} {roll : Roll} (tells : Tells t roll) where
   -- a roll of an accepted table tells of each station what the single question does
   asked_alike : (qs : List ℕ) → map (record_in roll) qs ≡ map (record_of t) qs
   asked_alike qs = λ i. map (λ (q : ℕ). leave_as (tells.told q i)) qs
 
   module _ (clean : fault_of t ≡ 0) (qs : List ℕ) (rs : List LeaveRecord) where
-    abbrev G : Filled
-    G = gate_of 0 (length qs) (length rs)
+    -- what is called over it is the roll call
+    pub called_alike : {f : Filling LeaveRecord} → f ≡ called (record_in roll) qs rs → f ≡ roll_call t qs rs
+    unfolding called roll_call
+    called_alike e = rw (clean, ← asked_alike qs) e
 
-    is_rolled : (b c : Bool) → leb (length qs) 64 ≡ b → leb (length qs) (length rs) ≡ c → filled_as G (filled_up_to roll G.filled qs rs) ≡ roll_call t qs rs
-    unfolding gate_of roll_call filled_with
-    is_rolled false c f g = rw (clean, f)
-    is_rolled true false f g = rw (clean, f, length-map, g)
-    is_rolled true true f g = rw (clean, f, length-map, g, take-length, asked_alike qs)
-
-    -- the questions that the gate lets through, filled, are the roll call
-    pub roll_called : {filled : Filled} {zs : List LeaveRecord} → filled ≡ G → zs ≡ filled_up_to roll filled.filled qs rs → filled_as filled zs ≡ roll_call t qs rs
-    roll_called e f = rw (f, e) (is_rolled (leb (length qs) 64) (leb (length qs) (length rs)) refl refl)
+    -- so the questions that the gate lets through, filled, are the roll call
+    pub roll_called : {filled : Filled} {zs : List LeaveRecord} → filled ≡ gate_of 0 (length qs) (length rs) → zs ≡ filled_up_to roll filled.filled qs rs → filled_as filled zs ≡ roll_call t qs rs
+    roll_called e f = called_alike (gate_called roll qs rs e f)
 
 -- 1 to 7
 pub call_refused : (t qs : List ℕ) (rs : List LeaveRecord) {f : Fault} → Rolls t (Err f) → {filled : Filled} → filled ≡ refused f → filled_as filled rs ≡ roll_call t qs rs

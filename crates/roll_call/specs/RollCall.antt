@@ -26,6 +26,11 @@ roll_call table stations records =
     (unless_fault (too_many (length stations)) (filled_with (length stations) (map (record_of table) stations) records) records)
     records
 
+-- what follows 1 to 7, whatever gives the record of a station
+unfoldable pub called : (ℕ → LeaveRecord) → List ℕ → List LeaveRecord → Filling LeaveRecord
+called record_for stations records =
+    unless_fault (too_many (length stations)) (filled_with (length stations) (map record_for stations) records) records
+
 -- A roll of an accepted table: what it says of every station is the single question's answer.
 pub record Tells (table : List ℕ) (r : Roll) : Type 0 where
   pub kept : Kept r

@@ -3,7 +3,8 @@
 
 ghost use Rattle.std.specs.Prelude.{◌≡◌, ◌≤◌, length, take};
 ghost use Rattle.filling.specs.Filled.{filled_as};
-ghost use Rattle.roll_call.specs.RollCall.{Rolls, gate_of, roll_call};
+ghost use Rattle.rolls.specs.Roll.{Kept, record_in};
+ghost use Rattle.roll_call.specs.RollCall.{Rolls, gate_of, called, roll_call};
 
 use arrays::read_counts;
 use filling::Filled;
@@ -62,16 +63,23 @@ fn answered(stations: &[u32], filled: Filled) -> &[u32]
     &stations[..filled.filled as usize]
 }
 
-// The roll call. "It refuses with 1 to 7", and beside a later refusal no question is answered, and so nothing is filled.
-pub fn roll_call(table: &[u8], stations: &[u32], records: &mut [LeaveRecord]) -> Filled
-    ensures { filled_as result records.new ≡ roll_call table.now stations.now records.old }
+// The roll call over the roll of an accepted table. There is no branch here: beside a refusal no question is answered, and so nothing is filled.
+fn call(roll: Roll, stations: &[u32], records: &mut [LeaveRecord]) -> Filled
+    requires { Kept roll }
+    ensures { filled_as result records.new ≡ called (record_in roll) stations.now records.old }
 {
-    let roll = match read_roll(table) {
-        Ok(roll) => roll,
-        Err(fault) => return Filled::refused(fault),
-    };
     let filled = gate(stations.len(), records.len());
     let asked = answered(stations, filled);
     fill(roll, asked, records);
     filled
+}
+
+// The roll call: "It refuses with 1 to 7", then as the roll says.
+pub fn roll_call(table: &[u8], stations: &[u32], records: &mut [LeaveRecord]) -> Filled
+    ensures { filled_as result records.new ≡ roll_call table.now stations.now records.old }
+{
+    match read_roll(table) {
+        Ok(roll) => call(roll, stations, records),
+        Err(fault) => Filled::refused(fault),
+    }
 }

@@ -49,12 +49,20 @@ fn ask(roll: &Roll, station: u32) -> Result<Leave, Refused>
     Ok(leave_counted(roll.messages[slot], roll.mentions[i], roll.smallest[i]))
 }
 
+// The record of one question.
+fn record(roll: &Roll, station: u32) -> LeaveRecord
+    requires { Kept roll.now }
+    ensures { result ≡ record_in roll.now station }
+{
+    leave_as(ask(roll, station).map_err(Refused::number))
+}
+
 // "one record per question", in the order of the questions; the records past them stay.
 pub fn fill(roll: Roll, stations: &[u32], records: &mut [LeaveRecord])
     requires { Kept roll × (length stations.now ≤ length records.old) }
     ensures { records.new ≡ map (record_in roll) stations.now ++ drop (length stations.now) records.old }
 {
     for (i, station) in stations.iter().enumerate() {
-        records[i] = leave_as(ask(&roll, *station));
+        records[i] = record(&roll, *station);
     }
 }

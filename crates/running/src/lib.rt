@@ -49,9 +49,8 @@ pub fn run_accepted(table: &[u8], sorted: [u64; 64], steps: &[u8], room: &mut [u
     let mut arrays = Arrays::read(table, sorted);
     let total = steps.len() / 12;
     for k in 0..total {
-        let step = match read_step(steps, k) {
-            Ok(step) => step,
-            Err(why) => return finish(room, &arrays, k, Err(why)),
+        let Ok(step) = read_step(steps, k) else {
+            return finish(room, &arrays, k, Err(Refusal::Malformed));
         };
         let i = lookup(&arrays.index[..arrays.n], step.station);
         if arrays.n <= i {

@@ -7,6 +7,7 @@ ghost use Rattle.std.specs.Prelude.{◌≡◌, ◌≤◌, length, IfOk};
 
 use cases::{fill, print_place, print_rest, read_lengths, read_part};
 use engine::run;
+use line::told;
 use std::fs::File;
 use std::io;
 use std::io::Read;
@@ -26,7 +27,7 @@ fn print_run(
 {
     let ran = run(table, steps, room);
     let size = 512 * (ran.stations as usize);
-    let answer = ran.answer;
+    let answer = told(ran.answer);
     let end = write_listing(out, answer, ran.done, ran.stations, &room[..size]);
     rt.write_all(&out[..end])?;
     Ok(size)

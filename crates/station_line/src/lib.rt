@@ -4,7 +4,6 @@
 #![tactic(auto)]
 
 ghost use Rattle.std.specs.Prelude.{◌≡◌};
-ghost use Rattle.line.specs.Answer.{fault_number, numbered};
 ghost use Rattle.table.specs.Fault.{fault_of};
 ghost use Rattle.engine.specs.Ran.{outcome};
 ghost use Rattle.leave.specs.Leave.{leave_as, may_leave};
@@ -15,8 +14,11 @@ ghost use Rattle.station_line.specs.Interface.{ran_as, told_as, viewed_as};
 use engine::run;
 use leave::may_leave;
 use leave::records::{LeaveRecord, leave_as};
-use line::{Fault, answer_number, answer_reason, carried_holder, carried_number, checked_number};
-use questions::{in_line, told_number, told_yes};
+use line::{
+    Fault, Refused, answer_number, answer_reason, carried_holder, carried_number, checked_number,
+    told,
+};
+use questions::{Told, in_line, told_number, told_yes};
 use table::check;
 use view::{Looked, look};
 
@@ -62,7 +64,7 @@ pub fn station_line_run(table: &[u8], steps: &[u8], room: &mut [u8]) -> StationL
     ensures { (result ≡ ran_as (outcome table.now steps.now room.old)) × (room.new ≡ (outcome table.now steps.now room.old).room) }
 {
     let ran = run(table, steps, room);
-    let answer = ran.answer;
+    let answer = told(ran.answer);
     let reason = answer_reason(answer);
     StationLineRan {
         answer: answer_number(answer),
@@ -74,8 +76,8 @@ pub fn station_line_run(table: &[u8], steps: &[u8], room: &mut [u8]) -> StationL
 }
 
 // The number and the value of an answer.
-fn told_as(told: Result<bool, Fault>) -> StationLineTold
-    ensures { result ≡ told_as (numbered fault_number told) }
+fn told_as(told: Told) -> StationLineTold
+    ensures { result ≡ told_as told }
 {
     StationLineTold {
         answer: told_number(told),
@@ -86,13 +88,13 @@ fn told_as(told: Result<bool, Fault>) -> StationLineTold
 pub fn station_line_may_leave(table: &[u8], station: u32) -> LeaveRecord
     ensures { result ≡ leave_as (may_leave table.now station) }
 {
-    leave_as(may_leave(table, station))
+    leave_as(may_leave(table, station).map_err(Refused::number))
 }
 
 pub fn station_line_in_line(table: &[u8]) -> StationLineTold
     ensures { result ≡ told_as (is_in_line table.now) }
 {
-    told_as(in_line(table))
+    told_as(in_line(table).map_err(Fault::number))
 }
 
 // What is seen, with 1 for a block.

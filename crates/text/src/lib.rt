@@ -4,14 +4,14 @@
 mod stations;
 
 ghost use Rattle.std.specs.Prelude.{◌≡◌, true, [], ◌∷◌, ◌++◌, ◌+◌, ◌*◌, ◌/◌, ◌≤◌, length, take, drop};
-ghost use Rattle.line.specs.Answer.{answer_number, told};
+ghost use Rattle.line.specs.Answer.{answer_number};
 ghost use Rattle.table.specs.Blocks.{nodes};
 ghost use Rattle.table.specs.Fault.{fault_of};
 ghost use Rattle.words.specs.Words.{ascii, decimal, spaced, parted};
 ghost use Rattle.words.specs.Writing.{Wrote};
 ghost use Rattle.text.specs.Listing.{reason_words, carried_words, head_text, stations_text, prints_stations, listing_text};
 
-use line::{Reason, Refused, answer_number, answer_reason};
+use line::{Answered, Reason, answer_number, answer_reason};
 use stations::put_line;
 use table::block_at;
 use words::{put, put_named, put_word};
@@ -49,9 +49,9 @@ fn put_counts(out: &mut [u8], number: u32, done: u32, stations: u32) -> usize
 }
 
 // The first line: up to 53 bytes for its numbers, 19 for the reason and the line feed.
-fn put_head(out: &mut [u8], answer: Result<(), Refused>, done: u32, stations: u32) -> usize
+fn put_head(out: &mut [u8], answer: Answered, done: u32, stations: u32) -> usize
     requires { 73 ≤ length out.old }
-    ensures { Wrote out.old 0 (head_text (told answer) done stations) result out.new × (result ≤ 73) }
+    ensures { Wrote out.old 0 (head_text answer done stations) result out.new × (result ≤ 73) }
 {
     let counted = put_counts(out, answer_number(answer), done, stations);
     let end = put_carried(out, counted, answer_reason(answer));
@@ -79,16 +79,10 @@ fn put_lines(out: &mut [u8], at: usize, table: &[u8]) -> usize
 }
 
 // The first line, and the lines of the stations where the answer prints them.
-fn put_listing(
-    out: &mut [u8],
-    answer: Result<(), Refused>,
-    done: u32,
-    stations: u32,
-    table: &[u8],
-) -> usize
+fn put_listing(out: &mut [u8], answer: Answered, done: u32, stations: u32, table: &[u8]) -> usize
     requires in_bounds { 40000 ≤ length out.old }
-    requires table_value { prints_stations (answer_number (told answer)) ≡ true → fault_of table.now ≡ 0 }
-    ensures { Wrote out.old 0 (listing_text (told answer) done stations (nodes table.now)) result out.new }
+    requires table_value { prints_stations (answer_number answer) ≡ true → fault_of table.now ≡ 0 }
+    ensures { Wrote out.old 0 (listing_text answer done stations (nodes table.now)) result out.new }
 {
     let end = put_head(out, answer, done, stations);
     if prints_stations(answer_number(answer)) {
@@ -101,14 +95,14 @@ fn put_listing(
 // so at most 64 blocks; else it plays no part. The amount filled is returned; room past it is not touched.
 pub fn write_listing(
     out: &mut [u8],
-    answer: Result<(), Refused>,
+    answer: Answered,
     done: u32,
     stations: u32,
     table: &[u8],
 ) -> usize
     requires in_bounds { 40000 ≤ length out.old }
-    requires table_value { prints_stations (answer_number (told answer)) ≡ true → fault_of table.now ≡ 0 }
-    ensures value { (result ≡ length (listing_text (told answer) done stations (nodes table.now))) × (out.new ≡ listing_text (told answer) done stations (nodes table.now) ++ drop result out.old) }
+    requires table_value { prints_stations (answer_number answer) ≡ true → fault_of table.now ≡ 0 }
+    ensures value { (result ≡ length (listing_text answer done stations (nodes table.now))) × (out.new ≡ listing_text answer done stations (nodes table.now) ++ drop result out.old) }
     ensures upper_bound { (result ≤ length out.new) × (result ≡ length (take result out.new)) }
 {
     put_listing(out, answer, done, stations, table)

@@ -9,7 +9,7 @@ use Rattle.table.specs.Blocks.{block_at}
 use Rattle.view.specs.View.{has_block, block_or_end, next_position}
 
 module _ (t : List ℕ) (p : ℕ) (h : p < length t / 512) where
-  has_block_lem : has_block t p ≡ true
+  pub has_block_lem : has_block t p ≡ true
   unfolding has_block
   has_block_lem = lt-ltb p (length t / 512) h
 
@@ -22,7 +22,7 @@ module _ (t : List ℕ) (p : ℕ) (h : p < length t / 512) where
   next_block = rw has_block_lem
 
 module _ (t : List ℕ) (p : ℕ) (h : length t / 512 ≤ p) where
-  has_none : has_block t p ≡ false
+  pub has_none : has_block t p ≡ false
   unfolding has_block
   has_none = le-ltb p (length t / 512) h
 

@@ -1,6 +1,9 @@
-use Rattle.std.proofs.Common.{arith}
-use Rattle.lists.proofs.Dropping.{rotated_away}
+use borrow.Author.Rules.{rules}
+use Rattle.lists.proofs.Dropping.{shift_none, shift_next, shift_all}
 use Rattle.index.proofs.drop_entry.Goals as goal
 
+pub loop-j-preserved : goal.loop-j-preserved
+loop-j-preserved c = search (shift_next, rules)
+
 pub returns : goal.returns
-returns c = let a = c.args in rotated_away a.index a.n a.i (omega arith) (omega arith) c.rotate_left.ensures.after
+returns c = search (shift_all, rules)

@@ -10,7 +10,7 @@ returns-then-files_hold-clause-prints c = search lists_run
 
 pub write_listing-requires-clause-table_value : goal.write_listing-requires-clause-table_value
 unfolding prints_stations
-write_listing-requires-clause-table_value c = λ e. clash e refl
+write_listing-requires-clause-table_value c = λ e. clash (rw c.number.ensures at e) refl
 
 pub returns-clause-prints : goal.returns-clause-prints
 returns-clause-prints c = search lists_sixteen

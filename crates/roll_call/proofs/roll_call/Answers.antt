@@ -1,23 +1,12 @@
-use Rattle.std.proofs.Common.{length, sym}
-use Rattle.std.proofs.lemmas.List.{length-take-le}
-use Rattle.roll_call.proofs.Amount.{amount_within, roll_called, call_refused}
+use Rattle.std.proofs.Common.{sym}
+use Rattle.roll_call.proofs.Amount.{called_alike, call_refused}
 use Rattle.roll_call.proofs.roll_call.Goals as goal
+
+pub call-requires : goal.call-requires
+call-requires c = c.in-Ok.ensures.tells.kept
+
+pub returns-in-Ok : goal.returns-in-Ok
+returns-in-Ok c = called_alike c.in-Ok.ensures.tells (sym c.in-Ok.ensures.fault_is) c.args.stations.now c.args.records.now c.call.ensures
 
 pub returns-in-Err : goal.returns-in-Err
 returns-in-Err c = call_refused _ _ _ c.in-Err.ensures c.refused.ensures
-
--- the gate lets no more questions through than there are
-pub answered-asked-requires : goal.answered-asked-requires
-answered-asked-requires c = rw c.gate-filled.ensures (amount_within _ _ _).0
-
--- nor more than there are records
-pub fill-requires : goal.fill-requires
-fill-requires c =
-    let amount = amount_within 0 (length c.args.stations.now) (length c.args.records.now) in
-    let few = length-take-le _ c.args.stations.now amount.0 in
-    (c.in-Ok.ensures.tells.kept, rw (c.answered-asked.ensures, c.gate-filled.ensures, few) amount.1)
-
--- what is filled of those is the roll call
-pub returns : goal.returns
-returns c =
-    roll_called c.in-Ok.ensures.tells (sym c.in-Ok.ensures.fault_is) c.args.stations.now c.args.records.now c.gate-filled.ensures (rw c.answered-asked.ensures at c.fill.ensures)

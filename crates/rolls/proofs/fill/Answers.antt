@@ -12,7 +12,7 @@ loop-i-preserved c = record {
   within = omega arith;
   filled =
       rw c.loop-i.invariant.filled
-      (stage_next (record_in c.args.roll) c.args.stations.now c.args.records.now c.loop-i.i 0 c.leave_as.result (cc) c.loop-i-test.true (omega arith));
+      (stage_next (record_in c.args.roll) c.args.stations.now c.args.records.now c.loop-i.i 0 c.record.result (cc) c.loop-i-test.true (omega arith));
 }
 
 -- after the last turn every question has its record

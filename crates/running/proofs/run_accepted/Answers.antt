@@ -8,6 +8,8 @@ use Prim.Native.Nat.{◌+◌, ◌≤◌, ◌/◌}
 use lib.ListN.{length}
 use Rattle.std.proofs.lemmas.Iterator.{first_from_Range}
 use Rattle.line.specs.declared.Refusal.{Refusal}
+use Rattle.line.specs.declared.Refusal.TheVariants.{Malformed}
+use Rattle.steps.proofs.Refusals.{read_malformed}
 use Rattle.line.specs.Answer.{done}
 use Rattle.line.specs.Node.{number}
 use Rattle.line.specs.Step.{step}
@@ -24,7 +26,7 @@ use Rattle.effects.proofs.Asked.{holds, walked, holder_fits}
 use Rattle.running.proofs.Ending.{ends_as}
 use Rattle.running.proofs.run_accepted.Goals as goal
 use Rattle.running.proofs.run_accepted.Goals.{After-plan, Joined-taken, Joined-decision, Joined-decision-2}
-use Rattle.running.proofs.run_accepted.Goals.{in-Some, in_default, in-Some-first, in_default-first, in-Some-second, in_default-second, then-decision, else-decision}
+use Rattle.running.proofs.run_accepted.Goals.{in-Some, in_default-taken, in-Some-first, in_default-first, in-Some-second, in_default-second, then-decision, else-decision}
 
 -- everything that is read and worked out before the first store
 worked : (c : After-plan) {r : Result Plan Refusal} → c.plan.result ≡ r → Planned c.loop-k.arrays c.in-Ok.step c.lookup-i.result c.bag_after-taken.result r
@@ -46,7 +48,7 @@ own_stored : (c : Joined-taken)
 own_stored c =
     elim c.match-taken.branch [
       | in-Some w ↦ own_taken _ _ _ w.in-Some.is w.arrays-is
-      | in_default w ↦ own_untaken _ _ w.in_default.is w.arrays-is
+      | in_default-taken w ↦ own_untaken _ _ w.in_default-taken.is w.arrays-is
     ]
 
 first : (c : Joined-decision) → Arrived c.in-Ok-plan.plan.decision.sendings.first c.in-Ok-plan.plan.first c.match-taken.arrays c.match-decision.arrays
@@ -71,9 +73,10 @@ going c h s = underway_next c.loop-k.invariant c.loop-k-test.true c.in-Ok.step c
 pub loop-k-init : goal.loop-k-init
 loop-k-init c = search underway_start
 
-pub returns-in-Err : goal.returns-in-Err
-returns-in-Err c =
-    ends_as c.loop-k.invariant c.finish.ensures (underway_unread c.loop-k.invariant c.loop-k-test.true c.in-Err.why (sym c.read_step.ensures ∙ c.in-Err.is))
+pub returns-in_default : goal.returns-in_default
+returns-in_default c =
+    ends_as c.loop-k.invariant c.finish.ensures
+    (underway_unread c.loop-k.invariant c.loop-k-test.true Malformed (read_malformed _ _ c.in_default.field-0 (sym c.read_step.ensures ∙ c.in_default.is)))
 
 pub returns-then-arrays-i : goal.returns-then-arrays-i
 returns-then-arrays-i c =
@@ -83,11 +86,11 @@ returns-then-arrays-i c =
 pub leave_from-leave-requires : goal.leave_from-leave-requires
 leave_from-leave-requires c = holder_fits c.loop-k.invariant.between _
 
-pub returns-in-Err-plan : goal.returns-in-Err-plan
-returns-in-Err-plan c =
-    let p = (goal.at.returns-in-Err-plan c).After-plan in
-    ends_as c.loop-k.invariant c.finish-in-Err-plan.ensures
-    (underway_refused c.loop-k.invariant c.loop-k-test.true c.in-Ok.step c.read_step.ensures c.in-Ok.is (refuses (worked p c.in-Err-plan.is).judged))
+pub returns-in-Err : goal.returns-in-Err
+returns-in-Err c =
+    let p = (goal.at.returns-in-Err c).After-plan in
+    ends_as c.loop-k.invariant c.finish-in-Err.ensures
+    (underway_refused c.loop-k.invariant c.loop-k-test.true c.in-Ok.step c.read_step.ensures c.in-Ok.is (refuses (worked p c.in-Err.is).judged))
 
 pub put_in-row-requires : goal.put_in-row-requires
 put_in-row-requires c =
