@@ -65,7 +65,11 @@ module _ {t : List ℕ} {roll : Roll} (tells : Tells t roll) where
     pub roll_called : {filled : Filled} {zs : List LeaveRecord} → filled ≡ gate_of 0 (length qs) (length rs) → zs ≡ filled_up_to roll filled.filled qs rs → filled_as filled zs ≡ roll_call t qs rs
     roll_called e f = called_alike (gate_called roll qs rs e f)
 
--- 1 to 7
-pub call_refused : (t qs : List ℕ) (rs : List LeaveRecord) {f : Fault} → Rolls t (Err f) → {filled : Filled} → filled ≡ refused f → filled_as filled rs ≡ roll_call t qs rs
-unfolding roll_call
-call_refused t qs rs {f} rolls e = rw (e, ← rolls.fault_is, ne_eqb (fault_number f) 0 (no_fault f))
+-- 1 to 7: the number, and nothing filled
+module _ (t qs : List ℕ) (rs : List LeaveRecord) {f : Fault} (rolls : Rolls t (Err f)) {filled : Filled} where
+  pub refused_alike : filled.answer ≡ fault_number f → filled.filled ≡ 0 → filled_as filled rs ≡ roll_call t qs rs
+  unfolding roll_call
+  refused_alike a z = rw (a, z, ← rolls.fault_is, ne_eqb (fault_number f) 0 (no_fault f))
+
+  pub call_refused : filled ≡ refused f → filled_as filled rs ≡ roll_call t qs rs
+  call_refused e = refused_alike (rw e refl) (rw e refl)

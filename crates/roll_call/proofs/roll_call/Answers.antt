@@ -1,5 +1,5 @@
 use Rattle.std.proofs.Common.{sym}
-use Rattle.roll_call.proofs.Amount.{called_alike, call_refused}
+use Rattle.roll_call.proofs.Amount.{called_alike, refused_alike}
 use Rattle.roll_call.proofs.roll_call.Goals as goal
 
 pub call-requires : goal.call-requires
@@ -9,4 +9,4 @@ pub returns-in-Ok : goal.returns-in-Ok
 returns-in-Ok c = called_alike c.in-Ok.ensures.tells (sym c.in-Ok.ensures.fault_is) c.args.stations.now c.args.records.now c.call.ensures
 
 pub returns-in-Err : goal.returns-in-Err
-returns-in-Err c = call_refused _ _ _ c.in-Err.ensures c.refused.ensures
+returns-in-Err c = refused_alike _ _ _ c.in-Err.ensures (cc) (cc)
